@@ -1,4 +1,4 @@
--- Numbers that stand apart, and places in a row.
+-- Numbers that stand apart, and addresses in a row.
 use Rattle.std.proofs.Common.{◌≡◌, ◌∙◌, sym, ap, ℕ, zero, suc, ◌+◌, ◌-◌, ◌<◌, ◌≤◌, Bool, true, false, ◌&&◌}
 use Rattle.std.proofs.Common.{nat_eq, List, [], ◌∷◌, ◌++◌, Option, Some, None, refl, arith}
 use Rattle.std.specs.Prelude.{◌^◌, ◌||◌, not, nat_le, nat_lt, ◌==◌, if◌then◌else◌}
@@ -7,11 +7,11 @@ use Rattle.std.proofs.lemmas.Bool.{and_parts, and_from, or_parts, or_from, not-t
 use Rattle.std.proofs.lemmas.List.Folds.{list_any-append}
 use Rattle.std.proofs.lemmas.Grind.{common_steps}
 use Rattle.mac_layout.specs.declared.error.AsmCode.{AsmCode}
-use Rattle.mac_layout.specs.declared.error.AsmCode.TheVariants.{DefinedTwice, PlaceTooHigh}
-use Rattle.mac_layout.specs.Places.{are_apart}
+use Rattle.mac_layout.specs.declared.error.AsmCode.TheVariants.{DefinedTwice, AddressTooHigh}
+use Rattle.mac_layout.specs.Addresses.{are_apart}
 use Rattle.mac_asm.specs.Assembly.{are_below}
 use Rattle.mac_layout.specs.Faults.{number_of, least, code_if}
-use Rattle.mac_layout.specs.LaidOut.{is_taken, places_in, taking}
+use Rattle.mac_layout.specs.LaidOut.{is_taken, addresses_in, taking}
 
 none-taken : (b : List ℕ) → list_any (is_taken []) b ≡ false
 none-taken [] = refl
@@ -79,7 +79,7 @@ lt-from n m h = grind (arith, common_steps)
 pub lt-test : (n m : ℕ) → n < m → nat_lt n m ≡ true
 lt-test n m h = grind (arith, common_steps)
 
--- places in a row are below 2 ^ 18 where the last is
+-- addresses in a row are below 2 ^ 18 where the last is
 range-low : (p n : ℕ) → are_below (range_with_len p (suc n)) ≡ true → p + suc n ≤ 2 ^ 18
 range-low p zero h =
     let l = lt-from p (2 ^ 18) (and_parts (nat_lt p (2 ^ 18)) true h).0 in
@@ -114,7 +114,7 @@ pub code_if-none : (w : Bool) (c : AsmCode) → code_if w c ≡ None → w ≡ f
 code_if-none true c h = absurd (cc)
 code_if-none false c h = refl
 
--- the places of so many words are those told, unless too high
+-- the addresses of so many words are those told, unless too high
 pub high-free : (p n : ℕ) → (not (n == 0) && not (nat_le (p + n) (2 ^ 18))) ≡ false → are_below (range_with_len p n) ≡ true
 high-free p zero h = refl
 high-free p (suc n) h = low-range p (suc n) (low p (suc n) h (grind arith))
@@ -129,7 +129,7 @@ free-high p (suc n) h = test p (suc n) (range-low p n h)
     test : (p n : ℕ) → p + n ≤ 2 ^ 18 → (not (n == 0) && not (nat_le (p + n) (2 ^ 18))) ≡ false
     test p n h = grind (arith, common_steps)
 
-pub whole-range : (p n : ℕ) → are_below (range_with_len p n) ≡ true → places_in p n ≡ range_with_len p n
+pub whole-range : (p n : ℕ) → are_below (range_with_len p n) ≡ true → addresses_in p n ≡ range_with_len p n
 whole-range p zero h = ap (λ k. range_with_len p k) (fits (2 ^ 18 - p))
   where
     fits : (m : ℕ) → (if nat_le 0 m then 0 else m) ≡ 0
@@ -139,12 +139,12 @@ whole-range p (suc n) h = ap (λ k. range_with_len p k) (fits p (suc n) (range-l
     fits : (p n : ℕ) → p + n ≤ 2 ^ 18 → (if nat_le n (2 ^ 18 - p) then n else 2 ^ 18 - p) ≡ n
     fits p n h = grind (arith, common_steps)
 
--- so many words can be taken from a place on where all their places are new and low
+-- so many words can be taken from an address on where all their addresses are new and low
 pub taking-none : (t : List ℕ) (p n : ℕ) → taking t p n ≡ None → are_apart t ≡ true
     → (are_apart (t ++ range_with_len p n) ≡ true) × (are_below (range_with_len p n) ≡ true)
 unfolding taking
 taking-none t p n h a =
-    let l = least-none (code_if (list_any (is_taken t) (places_in p n)) DefinedTwice) _ h in
+    let l = least-none (code_if (list_any (is_taken t) (addresses_in p n)) DefinedTwice) _ h in
     let low : are_below (range_with_len p n) ≡ true = high-free p n (code_if-none _ _ l.1) in
     let free : list_any (is_taken t) (range_with_len p n) ≡ false =
     ap (λ r. list_any (is_taken t) r) (sym (whole-range p n low)) ∙ code_if-none _ _ l.0 in
@@ -157,4 +157,4 @@ none-taking t p n a low =
     let free = (apart-parts t (range_with_len p n) a).2 in
     none-least _ _
     (ap (λ w. code_if w DefinedTwice) (ap (λ r. list_any (is_taken t) r) (whole-range p n low) ∙ free))
-    (ap (λ w. code_if w PlaceTooHigh) (free-high p n low))
+    (ap (λ w. code_if w AddressTooHigh) (free-high p n low))

@@ -15,13 +15,13 @@ use Rattle.mac_text.specs.declared.syntax.Statement.{Statement}
 use Rattle.mac_text.specs.declared.syntax.Statement.TheVariants as statements
 use Rattle.mac_text.specs.declared.syntax.Line.{Line}
 use Rattle.mac_layout.specs.declared.error.AsmCode.{AsmCode}
-use Rattle.mac_layout.specs.declared.error.AsmCode.TheVariants.{Syntax, UnknownName, DefinedTwice, DoesNotFit, NotYetDefined, PlaceTooHigh, NoEnd}
+use Rattle.mac_layout.specs.declared.error.AsmCode.TheVariants.{Syntax, UnknownName, DefinedTwice, DoesNotFit, NotYetDefined, AddressTooHigh, NoEnd}
 use Rattle.std.specs.Prelude.{ℤ}
 use Rattle.mac_layout.specs.Values.{◌>>=◌, value_of, natural_of}
-use Rattle.mac_layout.specs.Places.{Labels, names_at, count_of, size_of, are_among, is_count_settled, is_settled, are_apart}
+use Rattle.mac_layout.specs.Addresses.{Labels, names_at, count_of, size_of, are_among, is_count_settled, is_settled, are_apart}
 use Rattle.mac_asm.specs.Assembly.{have_words, are_below}
 use Rattle.mac_layout.specs.Faults.{code_if, code_of}
-use Rattle.mac_layout.specs.LaidOut.{count_if, count_from, checked_count, checked_size, at_least_one, literal_size, count_or, is_taken, places_in}
+use Rattle.mac_layout.specs.LaidOut.{count_if, count_from, checked_count, checked_size, at_least_one, literal_size, count_or, is_taken, addresses_in}
 use Rattle.mac_layout.specs.LaidOut.{taking, taking_size, taking_all, labels_code, with_labels, statement_code, line_code}
 use Rattle.asm_laws.specs.Laws.{ranges_from}
 use Rattle.asm_laws.proofs.Maps.{value-known}
@@ -38,7 +38,7 @@ passes-code : (q : AsmCode → Bool) (w : Bool) (code : AsmCode) → (q code ≡
 passes-code q true code f = true_from_ne_false (q code) (λ e. no-true true refl (f e))
 passes-code q false code f = refl
 
--- fewer places stand apart too
+-- fewer addresses stand apart too
 any-less : (test : ℕ → Bool) (a b c : List ℕ) → list_any test (a ++ (b ++ c)) ≡ false → list_any test (a ++ c) ≡ false
 any-less test a b c h =
     let p = or_parts (list_any test a) (list_any test (b ++ c)) (sym (list_any-append test a (b ++ c)) ∙ h) in
@@ -61,38 +61,38 @@ range-front (suc n) (suc k) p h =
     let i = range-front n k (p + 1) less in
     (i.0, ap (λ l. p ∷ l) i.1)
 
-places-front : (p n : ℕ) → (rest : List ℕ) × (range_with_len p n ≡ places_in p n ++ rest)
-places-front p n = range-front n (if nat_le n (2 ^ 18 - p) then n else 2 ^ 18 - p) p (less n (2 ^ 18 - p))
+addresses-front : (p n : ℕ) → (rest : List ℕ) × (range_with_len p n ≡ addresses_in p n ++ rest)
+addresses-front p n = range-front n (if nat_le n (2 ^ 18 - p) then n else 2 ^ 18 - p) p (less n (2 ^ 18 - p))
   where
     less : (n m : ℕ) → (if nat_le n m then n else m) ≤ n
     less n m = grind (arith, common_steps)
 
 taking-clear : (q : AsmCode → Bool) (t : List ℕ) (p n : ℕ) → (q DefinedTwice ≡ false → are_apart (t ++ range_with_len p n) ≡ true)
-    → (q PlaceTooHigh ≡ false → are_below (range_with_len p n) ≡ true)
+    → (q AddressTooHigh ≡ false → are_below (range_with_len p n) ≡ true)
     → passes q (taking t p n) ≡ true
 unfolding taking
 taking-clear q t p n f g =
-    let front = places-front p n in
+    let front = addresses-front p n in
     passes-least q _ _
-    (passes-code q (list_any (is_taken t) (places_in p n)) DefinedTwice
-    (λ e. (or_parts (list_any (is_taken t) (places_in p n)) (list_any (is_taken t) front.0)
-    (sym (ap (list_any (is_taken t)) front.1 ∙ list_any-append (is_taken t) (places_in p n) front.0)
+    (passes-code q (list_any (is_taken t) (addresses_in p n)) DefinedTwice
+    (λ e. (or_parts (list_any (is_taken t) (addresses_in p n)) (list_any (is_taken t) front.0)
+    (sym (ap (list_any (is_taken t)) front.1 ∙ list_any-append (is_taken t) (addresses_in p n) front.0)
     ∙ (apart-parts t (range_with_len p n) (f e)).2)).0))
-    (passes-code q (not (n == 0) && not (nat_le (p + n) (2 ^ 18))) PlaceTooHigh (λ e. free-high p n (g e)))
+    (passes-code q (not (n == 0) && not (nat_le (p + n) (2 ^ 18))) AddressTooHigh (λ e. free-high p n (g e)))
 
 pub below-append : (xs ys : List ℕ) → are_below (xs ++ ys) ≡ true → (are_below xs ≡ true) × (are_below ys ≡ true)
 below-append xs ys h = and_parts (are_below xs) (are_below ys) (sym (list_all-append (λ n. nat_lt n 262144) xs ys) ∙ h)
 
 size-clear : (q : AsmCode → Bool) (t : List ℕ) (p : ℕ) (r : Result ℕ AsmCode) → may_fail q r ≡ true
     → (q DefinedTwice ≡ false → are_apart (t ++ range_with_len p (count_or 0 r)) ≡ true)
-    → (q PlaceTooHigh ≡ false → are_below (range_with_len p (count_or 0 r)) ≡ true)
+    → (q AddressTooHigh ≡ false → are_below (range_with_len p (count_or 0 r)) ≡ true)
     → passes q (taking_size t p r) ≡ true
 size-clear q t p (Ok n) h f g = taking-clear q t p n f g
 size-clear q t p (Err code) h f g = h
 
 pub all-clear : (sizes : List (Result ℕ AsmCode)) (q : AsmCode → Bool) (t : List ℕ) (p : ℕ) → list_all (may_fail q) sizes ≡ true
     → (q DefinedTwice ≡ false → are_apart (t ++ ranges_from p (map (count_or 0) sizes)) ≡ true)
-    → (q PlaceTooHigh ≡ false → are_below (ranges_from p (map (count_or 0) sizes)) ≡ true)
+    → (q AddressTooHigh ≡ false → are_below (ranges_from p (map (count_or 0) sizes)) ≡ true)
     → passes q (taking_all t p sizes) ≡ true
 unfolding taking_all ranges_from
 all-clear [] q t p h f g = refl
@@ -101,16 +101,16 @@ all-clear (r ∷ sizes) q t p h f g =
     let n = count_or 0 r in
     let here = range_with_len p n in
     let later = ranges_from (p + n) (map (count_or 0) sizes) in
-    let front = places-front p n in
-    let parted : here ++ later ≡ places_in p n ++ (front.0 ++ later) =
-    ap (λ l. l ++ later) front.1 ∙ append_assoc (places_in p n) front.0 later in
+    let front = addresses-front p n in
+    let parted : here ++ later ≡ addresses_in p n ++ (front.0 ++ later) =
+    ap (λ l. l ++ later) front.1 ∙ append_assoc (addresses_in p n) front.0 later in
     passes-least q _ _
     (size-clear q t p r b.0
     (λ e. (apart-parts (t ++ here) later (ap are_apart (append_assoc t here later) ∙ f e)).0)
     (λ e. (below-append here later (g e)).0))
-    (all-clear sizes q (t ++ places_in p n) (p + n) b.1
-    (λ e. apart-less (t ++ places_in p n) front.0 later
-    (ap are_apart (append_assoc t (places_in p n) (front.0 ++ later)) ∙ ap (λ l. are_apart (t ++ l)) (sym parted) ∙ f e))
+    (all-clear sizes q (t ++ addresses_in p n) (p + n) b.1
+    (λ e. apart-less (t ++ addresses_in p n) front.0 later
+    (ap are_apart (append_assoc t (addresses_in p n) (front.0 ++ later)) ∙ ap (λ l. are_apart (t ++ l)) (sym parted) ∙ f e))
     (λ e. (below-append here later (g e)).1))
 
 -- what speaks of earlier labels alone fails only by not fitting
@@ -201,7 +201,7 @@ weaker-code q UnknownName h k = absurd (cc)
 weaker-code q DefinedTwice h k = absurd (cc)
 weaker-code q DoesNotFit h k = h
 weaker-code q NotYetDefined h k = absurd (cc)
-weaker-code q PlaceTooHigh h k = absurd (cc)
+weaker-code q AddressTooHigh h k = absurd (cc)
 weaker-code q NoEnd h k = absurd (cc)
 
 weaker : (q : AsmCode → Bool) (r : Result ℕ AsmCode) → q DoesNotFit ≡ true → may_fail is_unfit r ≡ true → may_fail q r ≡ true
@@ -234,7 +234,7 @@ literals-clear given q xs here h f = elim (cases_Bool (q DoesNotFit)) [
 data-clear : (q : AsmCode → Bool) (xs : Labels) (p : ℕ) (t : List ℕ) (given : Data) → is_count_settled (keys_of xs) given ≡ true
     → (q DoesNotFit ≡ false → data_counts xs p given ≡ true)
     → (q DefinedTwice ≡ false → are_apart (t ++ range_with_len p (size_of xs p given)) ≡ true)
-    → (q PlaceTooHigh ≡ false → are_below (range_with_len p (size_of xs p given)) ≡ true)
+    → (q AddressTooHigh ≡ false → are_below (range_with_len p (size_of xs p given)) ≡ true)
     → passes q (taking_size t p (checked_size xs p given)) ≡ true
 data-clear q xs p t given h f g l = elim (cases_Bool (data_counts xs p given)) [
   | inl k ↦ ap (λ r. passes q (taking_size t p r)) (known-size xs p given h k) ∙ taking-clear q t p (size_of xs p given) g l
@@ -255,7 +255,7 @@ pub statement-clear : (q : AsmCode → Bool) (xs : Labels) (p : ℕ) (ps t : Lis
     → is_settled (keys_of xs) s ≡ true → is_end_statement s ≡ false
     → (q DoesNotFit ≡ false → counts xs p s ≡ true)
     → (q DefinedTwice ≡ false → are_apart (t ++ range_of xs p s) ≡ true)
-    → (q PlaceTooHigh ≡ false → are_below (range_of xs p s) ≡ true)
+    → (q AddressTooHigh ≡ false → are_below (range_of xs p s) ≡ true)
     → passes q (statement_code (state xs p ps t sz) s) ≡ true
 unfolding statement_code
 statement-clear q xs p ps t sz None h e f g l = refl
@@ -273,13 +273,13 @@ passes-once q false o f h = true_from_ne_false (q DefinedTwice) (λ e. no-true f
 
 pub line-clear : (q : AsmCode → Bool) (xs : Labels) (p : ℕ) (ps t : List ℕ) (sz : List (Result ℕ AsmCode)) (line : Line)
     → (q DefinedTwice ≡ false → are_apart (keys_of (xs ++ own p line)) ≡ true)
-    → (q PlaceTooHigh ≡ false → are_below (values_of (xs ++ own p line)) ≡ true)
+    → (q AddressTooHigh ≡ false → are_below (values_of (xs ++ own p line)) ≡ true)
     → passes q (statement_code (with_labels (state xs p ps t sz) line) line.statement) ≡ true
     → passes q (line_code (state xs p ps t sz) line) ≡ true
 unfolding line_code
 line-clear q xs p ps t sz line f g h =
     passes-once q (are_apart (keys_of xs ++ line.labels)) _ (λ e. ap are_apart (sym (keys-grow xs p line)) ∙ f e)
     (passes-least q (labels_code (state xs p ps t sz) line) _
-    (passes-code q _ PlaceTooHigh
+    (passes-code q _ AddressTooHigh
     (λ e. low-own line.labels p (and_parts (are_below (values_of xs)) _ (sym (grown-low xs p line) ∙ g e)).1))
     h)

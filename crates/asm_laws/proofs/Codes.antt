@@ -8,18 +8,18 @@ use Rattle.std.proofs.lemmas.Bool.{and_parts, and_left, and_right, false_from_ne
 use Rattle.mac_text.specs.Lines.{program_of}
 use Rattle.mac_text.specs.declared.syntax.Line.{Line}
 use Rattle.mac_layout.specs.declared.error.AsmCode.{AsmCode}
-use Rattle.mac_layout.specs.declared.error.AsmCode.TheVariants.{UnknownName, DefinedTwice, DoesNotFit, NotYetDefined, PlaceTooHigh, NoEnd}
+use Rattle.mac_layout.specs.declared.error.AsmCode.TheVariants.{UnknownName, DefinedTwice, DoesNotFit, NotYetDefined, AddressTooHigh, NoEnd}
 use Rattle.mac_layout.specs.Values.{◌>>=◌}
-use Rattle.mac_layout.specs.Places.{Placed, literal_sizes, are_settled, first_place, are_apart}
-use Rattle.mac_asm.specs.Assembly.{lines_at, literal_places, lines_placed, all_statement_words, all_literal_words}
+use Rattle.mac_layout.specs.Addresses.{Placed, literal_sizes, are_settled, first_address, are_apart}
+use Rattle.mac_asm.specs.Assembly.{lines_at, literal_addresses, lines_placed, all_statement_words, all_literal_words}
 use Rattle.mac_asm.specs.Assembly.{words_at, have_words, are_allowed, start_at, are_below}
 use Rattle.asm_laws.specs.Found.{map_of}
 use Rattle.mac_layout.specs.Faults.{Fault, unless_fault}
-use Rattle.mac_layout.specs.LaidOut.{Layout, empty_layout, laid_out, places_of_literals}
+use Rattle.mac_layout.specs.LaidOut.{Layout, empty_layout, laid_out, addresses_of_literals}
 use Rattle.mac_asm.specs.Outcome.{lines_with, line_words, has_start, is_line_known, value_code, and_words, words_given}
 use Rattle.mac_asm.specs.Outcome.{image_with, outcome_placed, outcome_from, has_end, outcome_read, outcome_of}
 use Rattle.asm_laws.specs.Faults.{all_fit, TellsCode}
-use Rattle.asm_laws.specs.Laws.{places_taken}
+use Rattle.asm_laws.specs.Laws.{addresses_taken}
 use Rattle.asm_laws.proofs.Options.{bind_some}
 use Rattle.asm_laws.proofs.Ends.{ends_once, end-is-last}
 use Rattle.asm_laws.proofs.Given.{gather-words}
@@ -34,12 +34,12 @@ image-err start (Err g) fault h = cc
 -- a fault is told of END that is missing, of laying out, or of values
 pub told-from : (lines : List Line) (r : Result Layout Fault) (fault : Fault) (Q : Type 0) → outcome_from lines r ≡ Err fault
     → (r ≡ Err fault → Q)
-    → ((s : Layout) → r ≡ Ok s → words_given 1 (lines_with s.labels s.places (places_of_literals s) lines) ≡ Err fault → Q)
+    → ((s : Layout) → r ≡ Ok s → words_given 1 (lines_with s.labels s.addresses (addresses_of_literals s) lines) ≡ Err fault → Q)
     → Q
 unfolding outcome_placed
 told-from lines (Ok s) fault Q h f g =
-    let at = lines_with s.labels s.places (places_of_literals s) lines in
-    g s refl (image-err (unwrap_or (start_at at) first_place) (words_given 1 at) fault h)
+    let at = lines_with s.labels s.addresses (addresses_of_literals s) lines in
+    g s refl (image-err (unwrap_or (start_at at) first_address) (words_given 1 at) fault h)
 told-from lines (Err e) fault Q h f g = f (cc)
 
 told-if : (b : Bool) (lines : List Line) (fault : Fault) (Q : Type 0) → has_end lines ≡ b
@@ -73,7 +73,7 @@ not_twice DefinedTwice = false
 not_twice _ = true
 
 abbrev not_high : AsmCode → Bool
-not_high PlaceTooHigh = false
+not_high AddressTooHigh = false
 not_high _ = true
 
 abbrev not_unfit : AsmCode → Bool
@@ -89,8 +89,8 @@ true-false h = absurd (cc)
 
 -- a code that no fault of laying out has
 laid-without : (lines : List Line) (q : AsmCode → Bool) (fault : Fault) → are_settled [] lines ≡ true
-    → (q DefinedTwice ≡ false → (are_apart (keys_of (map_of lines)) && are_apart (places_taken (map_of lines) lines)) ≡ true)
-    → (q PlaceTooHigh ≡ false → (are_below (values_of (map_of lines)) && are_below (places_taken (map_of lines) lines)) ≡ true)
+    → (q DefinedTwice ≡ false → (are_apart (keys_of (map_of lines)) && are_apart (addresses_taken (map_of lines) lines)) ≡ true)
+    → (q AddressTooHigh ≡ false → (are_below (values_of (map_of lines)) && are_below (addresses_taken (map_of lines) lines)) ≡ true)
     → (q DoesNotFit ≡ false → all_fit (map_of lines) lines ≡ true)
     → ends_once lines ≡ true → laid_out empty_layout 1 lines ≡ Err fault
     → q fault.code ≡ true
@@ -98,13 +98,13 @@ unfolding words_at are_apart
 laid-without lines q fault s f g k e l =
     let m = map_of lines in
     let at = lines_placed m lines in
-    laid-clear lines q [] first_place [] [] (literal_places m lines) [] 1 fault
+    laid-clear lines q [] first_address [] [] (literal_addresses m lines) [] 1 fault
     (record {
       settled = s;
-      labels_once = λ n. (and_parts (are_apart (keys_of m)) (are_apart (places_taken m lines)) (f n)).0;
-      labels_low = λ n. (and_parts (are_below (values_of m)) (are_below (places_taken m lines)) (g n)).0;
-      once = λ n. (and_parts (are_apart (keys_of m)) (are_apart (places_taken m lines)) (f n)).1;
-      low = λ n. (and_parts (are_below (values_of m)) (are_below (places_taken m lines)) (g n)).1;
+      labels_once = λ n. (and_parts (are_apart (keys_of m)) (are_apart (addresses_taken m lines)) (f n)).0;
+      labels_low = λ n. (and_parts (are_below (values_of m)) (are_below (addresses_taken m lines)) (g n)).0;
+      once = λ n. (and_parts (are_apart (keys_of m)) (are_apart (addresses_taken m lines)) (f n)).1;
+      low = λ n. (and_parts (are_below (values_of m)) (are_below (addresses_taken m lines)) (g n)).1;
       sized = λ n. (and_parts (have_words (literal_sizes m (lines_at m lines))) _ (k n)).0;
       allowed = λ n. (and_parts (are_allowed at) _ (and_parts (have_words (literal_sizes m (lines_at m lines))) _ (k n)).1).0;
       given = λ n. own-words (all_statement_words at) _
@@ -140,7 +140,7 @@ values-fit lines fault e h w =
     let start = known-some (start_at at) k.1 in
     let o = bind_some (all_statement_words at) _ words.0 words.1 in
     let l = bind_some (all_literal_words at) _ words.0 o.2 in
-    let ends : ends_once (map line_at at) ≡ true = ap ends_once (placed-lines lines m first_place (literal_places m lines)) ∙ e in
+    let ends : ends_once (map line_at at) ≡ true = ap ends_once (placed-lines lines m first_address (literal_addresses m lines)) ∙ e in
     let g = gather-words at 1 o.0 l.0 o.1 l.1 (start-all at start.0 ends start.1) in
     no-both (words_given 1 at) g.0 fault g.1 w
 
@@ -205,16 +205,16 @@ codes-told source lines fault r h =
           (no-end fault.code NotYetDefined e refl)
           (λ o l. wrong not_early fault.code NotYetDefined e refl (laid-without lines not_early fault s true-false true-false true-false o l))
           (λ o w. no-values at fault NotYetDefined e refl w));
-      twice = λ e s. false_from_ne_true (are_apart (keys_of m) && are_apart (places_taken m lines))
+      twice = λ e s. false_from_ne_true (are_apart (keys_of m) && are_apart (addresses_taken m lines))
           (λ k. told-by source lines fault ⊥ r h
           (no-end fault.code DefinedTwice e refl)
           (λ o l. wrong not_twice fault.code DefinedTwice e refl (laid-without lines not_twice fault s (λ n. k) true-false true-false o l))
           (λ o w. no-values at fault DefinedTwice e refl w));
-      high = λ e s. false_from_ne_true (are_below (values_of m) && are_below (places_taken m lines))
+      high = λ e s. false_from_ne_true (are_below (values_of m) && are_below (addresses_taken m lines))
           (λ k. told-by source lines fault ⊥ r h
-          (no-end fault.code PlaceTooHigh e refl)
-          (λ o l. wrong not_high fault.code PlaceTooHigh e refl (laid-without lines not_high fault s true-false (λ n. k) true-false o l))
-          (λ o w. no-values at fault PlaceTooHigh e refl w));
+          (no-end fault.code AddressTooHigh e refl)
+          (λ o l. wrong not_high fault.code AddressTooHigh e refl (laid-without lines not_high fault s true-false (λ n. k) true-false o l))
+          (λ o w. no-values at fault AddressTooHigh e refl w));
       unfit = λ e s. false_from_ne_true (all_fit m lines)
           (λ k. told-by source lines fault ⊥ r h
           (no-end fault.code DoesNotFit e refl)

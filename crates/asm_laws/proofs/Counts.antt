@@ -17,10 +17,10 @@ use Rattle.mac_layout.specs.declared.error.AsmCode.{AsmCode}
 use Rattle.mac_layout.specs.declared.error.AsmCode.TheVariants.{DoesNotFit}
 use Rattle.std.specs.Prelude.{ℤ}
 use Rattle.mac_layout.specs.Values.{◌>>=◌, value_of, natural_of}
-use Rattle.mac_layout.specs.Places.{Labels, names_at, count_of, size_of, are_among, is_count_settled, are_apart}
+use Rattle.mac_layout.specs.Addresses.{Labels, names_at, count_of, size_of, are_among, is_count_settled, are_apart}
 use Rattle.mac_asm.specs.Assembly.{have_words, are_below}
 use Rattle.mac_layout.specs.LaidOut.{count_if, count_from, checked_count, checked_size, at_least_one, literal_size}
-use Rattle.mac_layout.specs.LaidOut.{count_or, taking, taking_size, taking_all, places_in}
+use Rattle.mac_layout.specs.LaidOut.{count_or, taking, taking_size, taking_all, addresses_in}
 use Rattle.asm_laws.specs.Laws.{ranges_from}
 use Rattle.asm_laws.proofs.Maps.{value-known}
 use Rattle.asm_laws.proofs.Apart.{apart-parts, least-none, none-least, whole-range, taking-none, none-taking}
@@ -162,7 +162,7 @@ known-literals xs here (d ∷ given) h k =
     let m : map (literal_size xs here) given ≡ map Ok (map (size_of xs here) given) = known-literals xs here given p.1 q.1 in
     ap (λ r. r ∷ map (literal_size xs here) given) f ∙ ap (λ l. Ok (size_of xs here d) ∷ l) m
 
--- all literals have places where they count, and their places are new and low
+-- all literals have addresses where they count, and their addresses are new and low
 pub taking-counts : (t : List ℕ) (p : ℕ) (r : Result ℕ AsmCode) → taking_size t p r ≡ None
     → (n : ℕ) × (r ≡ Ok n) × (taking t p n ≡ None)
 taking-counts t p (Ok n) h = (n, refl, h)
@@ -173,15 +173,15 @@ pub all-known : (t : List ℕ) (p : ℕ) (sizes : List (Result ℕ AsmCode)) →
 unfolding taking_all
 all-known t p [] h = refl
 all-known t p (r ∷ sizes) h =
-    let l = least-none (taking_size t p r) (taking_all (t ++ places_in p (count_or 0 r)) (p + count_or 0 r) sizes) h in
-    and_from _ _ (ap is_ok (taking-counts t p r l.0).1) (all-known (t ++ places_in p (count_or 0 r)) (p + count_or 0 r) sizes l.1)
+    let l = least-none (taking_size t p r) (taking_all (t ++ addresses_in p (count_or 0 r)) (p + count_or 0 r) sizes) h in
+    and_from _ _ (ap is_ok (taking-counts t p r l.0).1) (all-known (t ++ addresses_in p (count_or 0 r)) (p + count_or 0 r) sizes l.1)
 
 pub all-taken : (zs : List ℕ) (t : List ℕ) (p : ℕ) → taking_all t p (map Ok zs) ≡ None → are_apart t ≡ true
     → (are_apart (t ++ ranges_from p zs) ≡ true) × (are_below (ranges_from p zs) ≡ true)
 unfolding taking_all ranges_from
 all-taken [] t p h a = (ap are_apart (append-nil t) ∙ a, refl)
 all-taken (z ∷ zs) t p h a =
-    let l = least-none (taking t p z) (taking_all (t ++ places_in p z) (p + z) (map Ok zs)) h in
+    let l = least-none (taking t p z) (taking_all (t ++ addresses_in p z) (p + z) (map Ok zs)) h in
     let f = taking-none t p z l.0 a in
     let next : taking_all (t ++ range_with_len p z) (p + z) (map Ok zs) ≡ None =
     ap (λ r. taking_all (t ++ r) (p + z) (map Ok zs)) (sym (whole-range p z f.1)) ∙ l.1 in

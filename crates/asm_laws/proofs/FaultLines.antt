@@ -7,10 +7,10 @@ use Rattle.mac_text.specs.Lines.{is_end, with_line, line_of, line_then, lines_fr
 use Rattle.mac_text.specs.declared.syntax.Line.{Line}
 use Rattle.mac_layout.specs.declared.error.AsmCode.{AsmCode}
 use Rattle.mac_layout.specs.declared.error.AsmCode.TheVariants.{NoEnd, Syntax}
-use Rattle.mac_layout.specs.Places.{Labels, Placed}
+use Rattle.mac_layout.specs.Addresses.{Labels, Placed}
 use Rattle.mac_asm.specs.Assembly.{Assembled}
 use Rattle.mac_layout.specs.Faults.{Fault, unless_fault}
-use Rattle.mac_layout.specs.LaidOut.{Layout, empty_layout, line_code, laid_out, places_of_literals, with_line as layout_behind}
+use Rattle.mac_layout.specs.LaidOut.{Layout, empty_layout, line_code, laid_out, addresses_of_literals, with_line as layout_behind}
 use Rattle.mac_asm.specs.Outcome.{lines_with, value_code, and_words, words_given, image_with, outcome_placed, outcome_from, has_end, outcome_read, outcome_of}
 
 -- at least n, and of so many
@@ -52,14 +52,14 @@ given-within (at ∷ later) n fault h =
     unless-err n (value_code at) _ fault h (length later)
     (λ g e. within-more n g.line (length later) (given-within later (n + 1) g (and-err _ (words_given (n + 1) later) g e)))
 
-placed-short : (lines : List Line) (m : Labels) (places lits : List ℕ) → length (lines_with m places lits lines) ≤ length lines
+placed-short : (lines : List Line) (m : Labels) (addresses lits : List ℕ) → length (lines_with m addresses lits lines) ≤ length lines
 unfolding lines_with
 placed-short [] m [] lits = omega arith
-placed-short [] m (p ∷ places) lits = omega arith
+placed-short [] m (p ∷ addresses) lits = omega arith
 placed-short (line ∷ lines) m [] lits = omega arith
-placed-short (line ∷ lines) m (p ∷ places) lits =
-    let i : length (lines_with m places (drop (length line.literals) lits) lines) ≤ length lines =
-    placed-short lines m places (drop (length line.literals) lits) in
+placed-short (line ∷ lines) m (p ∷ addresses) lits =
+    let i : length (lines_with m addresses (drop (length line.literals) lits) lines) ≤ length lines =
+    placed-short lines m addresses (drop (length line.literals) lits) in
     omega (arith, i)
 
 image-err : (start : ℕ) (r : Result (List (ℕ × ℕ)) Fault) (fault : Fault) → image_with start r ≡ Err fault → r ≡ Err fault
@@ -71,9 +71,9 @@ from-within : (lines : List Line) (r : Result Layout Fault) (fault : Fault) → 
     → Within 1 fault.line (length lines)
 unfolding outcome_placed
 from-within lines (Ok s) fault h f =
-    let at = lines_with s.labels s.places (places_of_literals s) lines in
+    let at = lines_with s.labels s.addresses (addresses_of_literals s) lines in
     let w = given-within at 1 fault (image-err _ (words_given 1 at) fault h) in
-    let short : length at ≤ length lines = placed-short lines s.labels s.places (places_of_literals s) in
+    let short : length at ≤ length lines = placed-short lines s.labels s.addresses (addresses_of_literals s) in
     (w.0, omega (arith, w.1, short))
 from-within lines (Err g) fault h f = f fault (cc)
 

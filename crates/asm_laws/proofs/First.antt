@@ -6,7 +6,7 @@ use Rattle.mac_text.specs.Lines.{program_of}
 use Rattle.mac_text.specs.declared.syntax.Line.{Line}
 use Rattle.mac_layout.specs.declared.error.AsmCode.{AsmCode}
 use Rattle.mac_layout.specs.declared.error.AsmCode.TheVariants.{NoEnd}
-use Rattle.mac_layout.specs.Places.{Placed}
+use Rattle.mac_layout.specs.Addresses.{Placed}
 use Rattle.mac_asm.specs.Assembly.{Assembled, lines_placed}
 use Rattle.asm_laws.specs.Found.{map_of}
 use Rattle.mac_layout.specs.Faults.{Fault, unless_fault}

@@ -7,12 +7,12 @@ use Rattle.std.proofs.lemmas.Bool.{and_parts, and_from, cases_Bool, false_from_n
 use Rattle.mac_text.specs.Lines.{program_of}
 use Rattle.mac_text.specs.declared.syntax.Line.{Line}
 use Rattle.mac_layout.specs.declared.error.AsmCode.{AsmCode}
-use Rattle.mac_layout.specs.declared.error.AsmCode.TheVariants.{Syntax, UnknownName, DefinedTwice, DoesNotFit, NotYetDefined, PlaceTooHigh, NoEnd}
-use Rattle.mac_layout.specs.Places.{Placed, first_place}
+use Rattle.mac_layout.specs.declared.error.AsmCode.TheVariants.{Syntax, UnknownName, DefinedTwice, DoesNotFit, NotYetDefined, AddressTooHigh, NoEnd}
+use Rattle.mac_layout.specs.Addresses.{Placed, first_address}
 use Rattle.mac_asm.specs.Assembly.{lines_placed, start_at}
 use Rattle.asm_laws.specs.Found.{map_of}
 use Rattle.mac_layout.specs.Faults.{Fault, unless_fault}
-use Rattle.mac_layout.specs.LaidOut.{Layout, empty_layout, line_code, with_line, laid_out, places_of_literals}
+use Rattle.mac_layout.specs.LaidOut.{Layout, empty_layout, line_code, with_line, laid_out, addresses_of_literals}
 use Rattle.mac_asm.specs.Outcome.{lines_with, line_words, is_line_known, value_code, and_words, words_given, image_with}
 use Rattle.mac_asm.specs.Outcome.{outcome_placed, outcome_from, has_end, outcome_read, outcome_of}
 use Rattle.asm_laws.specs.Faults.{FirstLaid, FirstGiven}
@@ -109,7 +109,7 @@ code-wrong at DoesNotFit f h =
     let b = and_parts (is_line_known at) (not (is_given at)) h in
     code-same (is_given at) (is_line_known at) DoesNotFit (not-false (is_given at) b.1) (ap (λ b. if b then DoesNotFit else UnknownName) b.0)
 code-wrong at NotYetDefined f h = no-code h
-code-wrong at PlaceTooHigh f h = no-code h
+code-wrong at AddressTooHigh f h = no-code h
 code-wrong at NoEnd f h = no-code h
 
 none-given : (given : Bool) (code : AsmCode) → (if given then None else Some code) ≡ None → given ≡ true
@@ -182,9 +182,9 @@ from-told lines fault e (inl f) = ap (outcome_from lines) (fault-laid lines faul
 from-told lines fault e (inr f) =
     let s = final empty_layout lines in
     let l : laid_out empty_layout 1 lines ≡ Ok s = right-laid lines empty_layout 1 (are-all lines f.0) in
-    let at = lines_with s.labels s.places (places_of_literals s) lines in
+    let at = lines_with s.labels s.addresses (addresses_of_literals s) lines in
     let given : words_given 1 at ≡ Err fault = ap (words_given 1) (laid-placed lines s e l) ∙ fault-value lines fault f.1 in
-    ap (outcome_from lines) l ∙ ap (image_with (unwrap_or (start_at at) first_place)) given
+    ap (outcome_from lines) l ∙ ap (image_with (unwrap_or (start_at at) first_address)) given
 
 told-is : (lines : List Line) (fault : Fault) → has_end lines ≡ true → outcome_from lines (laid_out empty_layout 1 lines) ≡ Err fault
     → IsTold lines fault

@@ -14,25 +14,25 @@ use Rattle.mac_text.specs.declared.syntax.Statement.{Statement}
 use Rattle.mac_text.specs.declared.syntax.Statement.TheVariants as statements
 use Rattle.mac_text.specs.declared.syntax.Line.{Line}
 use Rattle.mac_layout.specs.declared.error.AsmCode.{AsmCode}
-use Rattle.mac_layout.specs.declared.error.AsmCode.TheVariants.{DefinedTwice, DoesNotFit, PlaceTooHigh}
-use Rattle.mac_layout.specs.Places.{Labels, size_of, place_behind, is_count_settled, is_settled, are_apart}
+use Rattle.mac_layout.specs.declared.error.AsmCode.TheVariants.{DefinedTwice, DoesNotFit, AddressTooHigh}
+use Rattle.mac_layout.specs.Addresses.{Labels, size_of, address_behind, is_count_settled, is_settled, are_apart}
 use Rattle.mac_asm.specs.Assembly.{have_words, are_below}
 use Rattle.mac_layout.specs.Faults.{code_if, code_of}
 use Rattle.mac_layout.specs.LaidOut.{checked_count, checked_size, literal_size, Layout, taking_size, labels_code, with_labels, statement_code}
-use Rattle.mac_layout.specs.LaidOut.{taken_by, place_by, with_statement, line_code, with_line, places_in, count_or}
+use Rattle.mac_layout.specs.LaidOut.{taken_by, address_by, with_statement, line_code, with_line, addresses_in, count_or}
 use Rattle.asm_laws.specs.Laws.{statement_size}
 use Rattle.asm_laws.proofs.Unique.{own, keys-grow}
 use Rattle.asm_laws.proofs.Apart.{code_if-none, least-none, none-least, whole-range, taking-none, none-taking}
 use Rattle.asm_laws.proofs.Counts.{is_ok, counts, count-known, known-count, size-known, known-size, literals-known, known-literals, taking-counts}
 
 abbrev pub state : Labels → ℕ → List ℕ → List ℕ → List (Result ℕ AsmCode) → Layout
-state xs p ps t sz = record { labels = xs; place = p; places = ps; taken = t; sizes = sz }
+state xs p ps t sz = record { labels = xs; address = p; addresses = ps; taken = t; sizes = sz }
 
--- the places of a statement
+-- the addresses of a statement
 abbrev pub range_of : Labels → ℕ → Option Statement → List ℕ
 range_of xs p s = range_with_len p (statement_size xs p s)
 
--- a statement can stand where its counts are known, and its places are new and low
+-- a statement can stand where its counts are known, and its addresses are new and low
 pub record StatementFits (xs : Labels) (p : ℕ) (t : List ℕ) (s : Option Statement) : Type 0 where
   pub settled : is_settled (keys_of xs) s ≡ true
   pub counted : counts xs p s ≡ true
@@ -83,24 +83,24 @@ fits-statement xs p ps t sz (Some (statements.Radix n)) f e =
     ap (λ w. code_if w DoesNotFit) (not_from_true (nat_le 2 n && nat_le n 10) f.counted)
 fits-statement xs p ps t sz (Some statements.Title) f e = refl
 
--- and then the place behind it, and its places
-pub place-fits : (xs : Labels) (p : ℕ) (ps t : List ℕ) (sz : List (Result ℕ AsmCode)) (s : Option Statement)
+-- and then the address behind it, and its addresses
+pub address-fits : (xs : Labels) (p : ℕ) (ps t : List ℕ) (sz : List (Result ℕ AsmCode)) (s : Option Statement)
     → StatementFits xs p t s
-    → place_by (state xs p ps t sz) s ≡ place_behind xs p s
-unfolding place_behind
-place-fits xs p ps t sz None f = refl
-place-fits xs p ps t sz (Some (statements.Data given)) f = ap (λ r. p + count_or 0 r) (known-size xs p given f.settled f.counted)
-place-fits xs p ps t sz (Some (statements.Loc at)) f = ap (count_or p) (known-count xs p at p f.settled f.counted)
-place-fits xs p ps t sz (Some (statements.End at)) f = refl
-place-fits xs p ps t sz (Some (statements.Radix n)) f = refl
-place-fits xs p ps t sz (Some statements.Title) f = refl
+    → address_by (state xs p ps t sz) s ≡ address_behind xs p s
+unfolding address_behind
+address-fits xs p ps t sz None f = refl
+address-fits xs p ps t sz (Some (statements.Data given)) f = ap (λ r. p + count_or 0 r) (known-size xs p given f.settled f.counted)
+address-fits xs p ps t sz (Some (statements.Loc at)) f = ap (count_or p) (known-count xs p at p f.settled f.counted)
+address-fits xs p ps t sz (Some (statements.End at)) f = refl
+address-fits xs p ps t sz (Some (statements.Radix n)) f = refl
+address-fits xs p ps t sz (Some statements.Title) f = refl
 
 pub taken-fits : (xs : Labels) (p : ℕ) (ps t : List ℕ) (sz : List (Result ℕ AsmCode)) (s : Option Statement)
     → StatementFits xs p t s
     → taken_by (state xs p ps t sz) s ≡ range_of xs p s
 taken-fits xs p ps t sz None f = refl
 taken-fits xs p ps t sz (Some (statements.Data given)) f =
-    ap (λ r. places_in p (count_or 0 r)) (known-size xs p given f.settled f.counted) ∙ whole-range p (size_of xs p given) f.low
+    ap (λ r. addresses_in p (count_or 0 r)) (known-size xs p given f.settled f.counted) ∙ whole-range p (size_of xs p given) f.low
 taken-fits xs p ps t sz (Some (statements.Loc at)) f = refl
 taken-fits xs p ps t sz (Some (statements.End at)) f = refl
 taken-fits xs p ps t sz (Some (statements.Radix n)) f = refl
@@ -157,7 +157,7 @@ line-fits xs p ps t sz line h k b a =
     let w = literals-known xs' p line.literals k in
     record {
       once = ap are_apart (keys-grow xs p line) ∙ i.0;
-      low = grown-low xs p line ∙ and_from _ _ b (own-low line.labels p (code_if-none _ PlaceTooHigh l.0));
+      low = grown-low xs p line ∙ and_from _ _ b (own-low line.labels p (code_if-none _ AddressTooHigh l.0));
       settled = w.0;
       sized = w.1;
       statement = statement-fits xs' p (ps ++ (p ∷ [])) t (sz ++ map (literal_size xs' p) line.literals) line.statement l.1 a;
@@ -172,12 +172,12 @@ unfolding line_code
 fits-line xs p ps t sz line f h =
     let low = and_parts (are_below (values_of xs)) _ (sym (grown-low xs p line) ∙ f.low) in
     none-if (are_apart (keys_of xs ++ line.labels)) _ (ap are_apart (sym (keys-grow xs p line)) ∙ f.once)
-    (none-least _ _ (ap (λ w. code_if w PlaceTooHigh) (low-own line.labels p low.1)) h)
+    (none-least _ _ (ap (λ w. code_if w AddressTooHigh) (low-own line.labels p low.1)) h)
 
 -- the layout behind a line
 abbrev pub behind : Labels → ℕ → List ℕ → List ℕ → List (Result ℕ AsmCode) → Line → Layout
 behind xs p ps t sz line =
-    state (xs ++ own p line) (place_behind (xs ++ own p line) p line.statement) (ps ++ (p ∷ []))
+    state (xs ++ own p line) (address_behind (xs ++ own p line) p line.statement) (ps ++ (p ∷ []))
     (t ++ range_of (xs ++ own p line) p line.statement)
     (sz ++ map Ok (map (size_of (xs ++ own p line) p) line.literals))
 
@@ -189,12 +189,12 @@ line-behind xs p ps t sz line f =
     let xs' = xs ++ own p line in
     let ps' = ps ++ (p ∷ []) in
     let sz' = sz ++ map (literal_size xs' p) line.literals in
-    let place : place_by (state xs' p ps' t sz') line.statement ≡ place_behind xs' p line.statement =
-    place-fits xs' p ps' t sz' line.statement f.statement in
+    let address : address_by (state xs' p ps' t sz') line.statement ≡ address_behind xs' p line.statement =
+    address-fits xs' p ps' t sz' line.statement f.statement in
     let taken : taken_by (state xs' p ps' t sz') line.statement ≡ range_of xs' p line.statement =
     taken-fits xs' p ps' t sz' line.statement f.statement in
     let sizes : map (literal_size xs' p) line.literals ≡ map Ok (map (size_of xs' p) line.literals) =
     known-literals xs' p line.literals f.settled f.sized in
-    ap (λ q. state xs' q ps' (t ++ taken_by (state xs' p ps' t sz') line.statement) sz') place
-    ∙ ap (λ r. state xs' (place_behind xs' p line.statement) ps' (t ++ r) sz') taken
-    ∙ ap (λ l. state xs' (place_behind xs' p line.statement) ps' (t ++ range_of xs' p line.statement) (sz ++ l)) sizes
+    ap (λ q. state xs' q ps' (t ++ taken_by (state xs' p ps' t sz') line.statement) sz') address
+    ∙ ap (λ r. state xs' (address_behind xs' p line.statement) ps' (t ++ r) sz') taken
+    ∙ ap (λ l. state xs' (address_behind xs' p line.statement) ps' (t ++ range_of xs' p line.statement) (sz ++ l)) sizes

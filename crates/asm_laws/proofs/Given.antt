@@ -8,7 +8,7 @@ use Rattle.std.proofs.lemmas.List.Sorted.{IsPermutation-refl, IsPermutation-tran
 use Rattle.std.proofs.lemmas.List.Sorted.{IsPermutation-append_comm, IsPermutation-append_left, IsPermutation-append_right}
 use Rattle.std.proofs.lemmas.Bool.{and_parts, and_from}
 use Rattle.mac_layout.specs.declared.error.AsmCode.{AsmCode}
-use Rattle.mac_layout.specs.Places.{Placed}
+use Rattle.mac_layout.specs.Addresses.{Placed}
 use Rattle.mac_asm.specs.Assembly.{statement_words, literal_words, all_statement_words, all_literal_words}
 use Rattle.mac_layout.specs.Faults.{Fault, unless_fault}
 use Rattle.mac_asm.specs.Outcome.{line_words, has_start, value_code, and_words, words_given}

@@ -18,8 +18,8 @@ use Rattle.mac_text.specs.declared.syntax.Line.{Line}
 use Rattle.mac_layout.specs.Values.{◌>>=◌, Names, term_value, signed, value_onto, value_of, is_known}
 use Rattle.mac_asm.specs.Words.{fitted, word_of, half_of, register_of, or_zero, operand_of, is_missing, with_accumulator, with_operand, instruction_of}
 use Rattle.mac_asm.specs.Words.{at_most, position_of, pointer_of, halves_of, iowd_of, words_of_all, words_of, is_known_if, is_operand_known, are_known}
-use Rattle.mac_layout.specs.Places.{Labels, size_of, place_after, Located, sizes_at, literal_sizes, places_from, Placed, placed, first_place}
-use Rattle.mac_asm.specs.Assembly.{lines_at, literal_places, lines_placed, all_words_of, words_from, statement_words, literal_words, start_by}
+use Rattle.mac_layout.specs.Addresses.{Labels, size_of, address_after, Located, sizes_at, literal_sizes, addresses_from, Placed, placed, first_address}
+use Rattle.mac_asm.specs.Assembly.{lines_at, literal_addresses, lines_placed, all_words_of, words_from, statement_words, literal_words, start_by}
 use Rattle.mac_asm.specs.Outcome.{line_words, has_start, is_statement_known, is_line_known}
 use Rattle.asm_laws.specs.Codes.{is_given}
 
@@ -153,18 +153,18 @@ known-from : (names : Names) (p : ℕ) (given : Data) → is_some (words_from na
 unfolding words_from
 known-from names p given h = known-data names given (mapped _ (all_words_of names given) h)
 
-known-literals : (given : List Data) (places : List ℕ) (names : Names) → length places ≡ length given
-    → is_some (literal_words names (zip places given)) ≡ true
+known-literals : (given : List Data) (addresses : List ℕ) (names : Names) → length addresses ≡ length given
+    → is_some (literal_words names (zip addresses given)) ≡ true
     → list_all (are_known names) given ≡ true
 unfolding literal_words
-known-literals [] places names e h = refl
+known-literals [] addresses names e h = refl
 known-literals (d ∷ given) [] names e h = absurd (cc)
-known-literals (d ∷ given) (p ∷ places) names e h =
+known-literals (d ∷ given) (p ∷ addresses) names e h =
     let first = bound (words_from names p d) _ h in
-    let later = bound (literal_words names (zip places given)) _ first.2 in
-    let less : length places ≡ length given = omega (arith, e) in
+    let later = bound (literal_words names (zip addresses given)) _ first.2 in
+    let less : length addresses ≡ length given = omega (arith, e) in
     and_from _ _ (known-from names p d (is-there (words_from names p d) first.0 first.1))
-    (known-literals given places names less (is-there (literal_words names (zip places given)) later.0 later.1))
+    (known-literals given addresses names less (is-there (literal_words names (zip addresses given)) later.0 later.1))
 
 known-start : (names : Names) (e : Option (List SignedTerm)) → is_some (start_by names (Some (statements.End e))) ≡ true
     → is_known_if names e ≡ true
@@ -181,11 +181,11 @@ known-statement names (Some (statements.End e)) h k = known-start names e k
 known-statement names (Some (statements.Radix n)) h k = refl
 known-statement names (Some statements.Title) h k = refl
 
--- each literal of a line has a place
-abbrev pub HasPlaces : Placed → Type 0
-HasPlaces at = length at.names.literals ≡ length at.line.literals
+-- each literal of a line has an address
+abbrev pub HasAddresses : Placed → Type 0
+HasAddresses at = length at.names.literals ≡ length at.line.literals
 
-pub given-known : (at : Placed) → HasPlaces at → is_given at ≡ true → is_line_known at ≡ true
+pub given-known : (at : Placed) → HasAddresses at → is_given at ≡ true → is_line_known at ≡ true
 unfolding line_words
 given-known at e h =
     let b = and_parts (is_some (line_words at)) (has_start at.names at.line.statement) h in
@@ -195,37 +195,37 @@ given-known at e h =
     (known-literals at.line.literals at.names.literals at.names e (is-there (literal_words at.names (zip at.names.literals at.line.literals)) l.0 l.1))
     (known-statement at.names at.line.statement (is-there (statement_words at.names at.line.statement) o.0 o.1) b.1)
 
-length-places : (sizes : List ℕ) (p : ℕ) → length (places_from p sizes) ≡ length sizes
-unfolding places_from
-length-places [] p = refl
-length-places (z ∷ sizes) p = ap suc (length-places sizes (p + z))
+length-addresses : (sizes : List ℕ) (p : ℕ) → length (addresses_from p sizes) ≡ length sizes
+unfolding addresses_from
+length-addresses [] p = refl
+length-addresses (z ∷ sizes) p = ap suc (length-addresses sizes (p + z))
 
--- the lines as they are placed, each with a place for each literal
+-- the lines as they are placed, each with an address for each literal
 abbrev AllHave : List Placed → Type 0
 AllHave [] = Unit {0}
-AllHave (at ∷ later) = HasPlaces at × AllHave later
+AllHave (at ∷ later) = HasAddresses at × AllHave later
 
-all-have : (ats : List Located) (m : Labels) (places : List ℕ) → length places ≡ length (literal_sizes m ats) → AllHave (placed m ats places)
+all-have : (ats : List Located) (m : Labels) (addresses : List ℕ) → length addresses ≡ length (literal_sizes m ats) → AllHave (placed m ats addresses)
 unfolding placed
-all-have [] m places e = tt
-all-have (at ∷ later) m places e =
+all-have [] m addresses e = tt
+all-have (at ∷ later) m addresses e =
     let n = length at.line.literals in
     let sizes = sizes_at m at in
     let more = literal_sizes m later in
-    let all : length places ≡ length sizes + length more = e ∙ length-append sizes more in
-    let mine : length sizes ≡ n = length-map at.line.literals (size_of m at.place) in
-    let enough : n ≤ length places = omega (arith, all, mine) in
-    let rest : length places - n ≡ length more = omega (arith, all, mine) in
-    (length-take-le n places enough, all-have later m (drop n places) (length-drop n places ∙ rest))
+    let all : length addresses ≡ length sizes + length more = e ∙ length-append sizes more in
+    let mine : length sizes ≡ n = length-map at.line.literals (size_of m at.address) in
+    let enough : n ≤ length addresses = omega (arith, all, mine) in
+    let rest : length addresses - n ≡ length more = omega (arith, all, mine) in
+    (length-take-le n addresses enough, all-have later m (drop n addresses) (length-drop n addresses ∙ rest))
 
-in-all : (above : List Placed) (at : Placed) (below : List Placed) → AllHave (above ++ (at ∷ below)) → HasPlaces at
+in-all : (above : List Placed) (at : Placed) (below : List Placed) → AllHave (above ++ (at ∷ below)) → HasAddresses at
 in-all [] at below h = h.0
 in-all (first ∷ above) at below h = in-all above at below h.1
 
 pub placed-have : (lines : List Line) (m : Labels) (above : List Placed) (at : Placed) (below : List Placed)
     → lines_placed m lines ≡ above ++ (at ∷ below)
-    → HasPlaces at
+    → HasAddresses at
 placed-have lines m above at below e =
     let all : AllHave (lines_placed m lines) =
-    all-have (lines_at m lines) m (literal_places m lines) (length-places (literal_sizes m (lines_at m lines)) (place_after m first_place lines)) in
+    all-have (lines_at m lines) m (literal_addresses m lines) (length-addresses (literal_sizes m (lines_at m lines)) (address_after m first_address lines)) in
     in-all above at below (subst AllHave e all)

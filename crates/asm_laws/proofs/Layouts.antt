@@ -13,16 +13,16 @@ use Rattle.mac_text.specs.declared.syntax.Statement.{Statement}
 use Rattle.mac_text.specs.declared.syntax.Statement.TheVariants as statements
 use Rattle.mac_text.specs.declared.syntax.Line.{Line}
 use Rattle.mac_layout.specs.declared.error.AsmCode.{AsmCode}
-use Rattle.mac_layout.specs.Places.{Labels, size_of, place_behind, Located, located, place_after, literal_sizes}
-use Rattle.mac_layout.specs.Places.{is_count_settled, is_settled, are_settled, are_apart}
+use Rattle.mac_layout.specs.Addresses.{Labels, size_of, address_behind, Located, located, address_after, literal_sizes}
+use Rattle.mac_layout.specs.Addresses.{is_count_settled, is_settled, are_settled, are_apart}
 use Rattle.mac_asm.specs.Assembly.{are_below}
-use Rattle.asm_laws.specs.Found.{labels_met}
+use Rattle.asm_laws.specs.Found.{labels_from_above}
 use Rattle.mac_layout.specs.Faults.{Fault, unless_fault}
 use Rattle.mac_layout.specs.LaidOut.{literal_size, Layout, labels_code, taking_all, with_labels, with_statement, statement_code, line_code, with_line, laid_out}
 use Rattle.mac_asm.specs.Outcome.{has_end}
-use Rattle.asm_laws.specs.Laws.{statement_size, places_of}
+use Rattle.asm_laws.specs.Laws.{statement_size, addresses_of}
 use Rattle.asm_laws.proofs.Unique.{own, keys-grow, labels_in}
-use Rattle.asm_laws.proofs.Maps.{place-settled, size-settled}
+use Rattle.asm_laws.proofs.Maps.{address-settled, size-settled}
 use Rattle.asm_laws.proofs.Found.{met}
 use Rattle.asm_laws.proofs.Apart.{least-none}
 use Rattle.asm_laws.proofs.Counts.{is_ok}
@@ -65,15 +65,15 @@ sizes-grow : (lines : List Line) (s : Layout) → list_all is_ok (final s lines)
 unfolding with_labels with_statement
 sizes-grow [] s h = h
 sizes-grow (line ∷ lines) s h =
-    let i : list_all is_ok (s.sizes ++ map (literal_size (s.labels ++ own s.place line) s.place) line.literals) ≡ true =
+    let i : list_all is_ok (s.sizes ++ map (literal_size (s.labels ++ own s.address line) s.address) line.literals) ≡ true =
     sizes-grow lines (with_line s line) h in
     (and_parts (list_all is_ok s.sizes) _ (sym (list_all-append is_ok s.sizes _) ∙ i)).0
 
 own-sizes : (lines : List Line) (s : Layout) (line : Line) → list_all is_ok (final s (line ∷ lines)).sizes ≡ true
-    → list_all is_ok (map (literal_size (s.labels ++ own s.place line) s.place) line.literals) ≡ true
+    → list_all is_ok (map (literal_size (s.labels ++ own s.address line) s.address) line.literals) ≡ true
 unfolding with_labels with_statement
 own-sizes lines s line h =
-    let i : list_all is_ok (s.sizes ++ map (literal_size (s.labels ++ own s.place line) s.place) line.literals) ≡ true =
+    let i : list_all is_ok (s.sizes ++ map (literal_size (s.labels ++ own s.address line) s.address) line.literals) ≡ true =
     sizes-grow lines (with_line s line) h in
     (and_parts (list_all is_ok s.sizes) _ (sym (list_all-append is_ok s.sizes _) ∙ i)).1
 
@@ -82,7 +82,7 @@ abbrev pub Fits : Labels → ℕ → List ℕ → List Line → Type 0
 Fits xs p t [] = Unit {0}
 Fits xs p t (line ∷ lines) =
     LineFits xs p t line
-    × Fits (xs ++ own p line) (place_behind (xs ++ own p line) p line.statement) (t ++ range_of (xs ++ own p line) p line.statement) lines
+    × Fits (xs ++ own p line) (address_behind (xs ++ own p line) p line.statement) (t ++ range_of (xs ++ own p line) p line.statement) lines
 
 pub right-fits : (lines : List Line) (xs : Labels) (p : ℕ) (ps t : List ℕ) (sz : List (Result ℕ AsmCode))
     → AllRight (state xs p ps t sz) lines → list_all is_ok (final (state xs p ps t sz) lines).sizes ≡ true
@@ -100,8 +100,8 @@ right-fits (line ∷ lines) xs p ps t sz h k b a =
           f.low f.statement.once,
     )
 
--- END takes the places of all literals
-pub end-code : (s : Option Statement) (l : Layout) → is_end_statement s ≡ true → statement_code l s ≡ taking_all l.taken l.place l.sizes
+-- END takes the addresses of all literals
+pub end-code : (s : Option Statement) (l : Layout) → is_end_statement s ≡ true → statement_code l s ≡ taking_all l.taken l.address l.sizes
 unfolding statement_code
 end-code None l h = absurd (cc)
 end-code (Some (statements.Data given)) l h = absurd (cc)
@@ -121,10 +121,10 @@ end-layout (Some statements.Title) l h = absurd (cc)
 
 end-all : (s : Layout) (line : Line) → is_end line ≡ true
     → statement_code (with_labels s line) line.statement
-    ≡ taking_all (with_line s line).taken (with_line s line).place (with_line s line).sizes
+    ≡ taking_all (with_line s line).taken (with_line s line).address (with_line s line).sizes
 end-all s line h =
     end-code line.statement (with_labels s line) h
-    ∙ ap (λ l. taking_all l.taken l.place l.sizes) (sym (end-layout line.statement (with_labels s line) h))
+    ∙ ap (λ l. taking_all l.taken l.address l.sizes) (sym (end-layout line.statement (with_labels s line) h))
 
 pub line-statement : (s : Layout) (line : Line) → line_code s line ≡ None
     → statement_code (with_labels s line) line.statement ≡ None
@@ -133,14 +133,14 @@ line-statement s line h =
     (least-none (labels_code s line) _ (if-none (are_apart (keys_of s.labels ++ line.labels)) _ h).1).1
 
 pub end-right : (lines : List Line) (s : Layout) → has_end lines ≡ true → AllRight s lines
-    → taking_all (final s lines).taken (final s lines).place (final s lines).sizes ≡ None
+    → taking_all (final s lines).taken (final s lines).address (final s lines).sizes ≡ None
 end-right [] s h r = absurd (cc)
 end-right (line ∷ []) s h r = sym (end-all s line h) ∙ line-statement s line r.0
 end-right (line ∷ next ∷ lines) s h r = end-right (next ∷ lines) (with_line s line) h r.1
 
 pub fits-right : (lines : List Line) (xs : Labels) (p : ℕ) (ps t : List ℕ) (sz : List (Result ℕ AsmCode))
     → Fits xs p t lines → ends_once lines ≡ true
-    → taking_all (final (state xs p ps t sz) lines).taken (final (state xs p ps t sz) lines).place (final (state xs p ps t sz) lines).sizes ≡ None
+    → taking_all (final (state xs p ps t sz) lines).taken (final (state xs p ps t sz) lines).address (final (state xs p ps t sz) lines).sizes ≡ None
     → AllRight (state xs p ps t sz) lines
 unfolding with_labels
 fits-right [] xs p ps t sz f e h = tt
@@ -151,9 +151,9 @@ fits-right (line ∷ next ∷ lines) xs p ps t sz f e h =
     let xs' = xs ++ own p line in
     let b = and_parts (not (is_end line)) (ends_once (next ∷ lines)) e in
     let same : with_line s line ≡ behind xs p ps t sz line = line-behind xs p ps t sz line f.0 in
-    let later = fits-right (next ∷ lines) xs' (place_behind xs' p line.statement) (ps ++ (p ∷ []))
+    let later = fits-right (next ∷ lines) xs' (address_behind xs' p line.statement) (ps ++ (p ∷ []))
     (t ++ range_of xs' p line.statement) (sz ++ map Ok (map (size_of xs' p) line.literals)) f.1 b.1
-    (subst (λ l. taking_all (final l (next ∷ lines)).taken (final l (next ∷ lines)).place (final l (next ∷ lines)).sizes ≡ None) same h) in (
+    (subst (λ l. taking_all (final l (next ∷ lines)).taken (final l (next ∷ lines)).address (final l (next ∷ lines)).sizes ≡ None) same h) in (
       fits-line xs p ps t sz line f.0
           (fits-statement xs' p (ps ++ (p ∷ [])) t (sz ++ map (literal_size xs' p) line.literals) line.statement f.0.statement (not-true (is_end line) b.0)),
       subst (λ l. AllRight l (next ∷ lines)) (sym same) later,
@@ -171,7 +171,7 @@ fits-settled (line ∷ lines) xs p t f =
 
 -- later labels change nothing of a line
 pub record Kept (m xs : Labels) (p : ℕ) (line : Line) : Type 0 where
-  pub place : place_behind m p line.statement ≡ place_behind xs p line.statement
+  pub address : address_behind m p line.statement ≡ address_behind xs p line.statement
   pub size : statement_size m p line.statement ≡ statement_size xs p line.statement
   pub sizes : map (size_of m p) line.literals ≡ map (size_of xs p) line.literals
 
@@ -198,23 +198,23 @@ pub kept : (m xs ys : Labels) (p : ℕ) (line : Line) → m ≡ xs ++ ys → is_
 kept m xs ys p line e h k =
     subst (λ l. Kept l xs p line) (sym e)
     (record {
-      place = place-settled xs ys p line.statement h;
+      address = address-settled xs ys p line.statement h;
       size = statement-settled xs ys p line.statement h;
       sizes = sizes-settled xs ys p line.literals k;
     })
 
 -- the same for the first of lines that can stand, under all labels that they bear
 pub fits-kept : (line : Line) (lines : List Line) (xs : Labels) (p : ℕ) (t : List ℕ) → Fits xs p t (line ∷ lines)
-    → Kept (labels_met xs p (line ∷ lines)) (xs ++ own p line) p line
-unfolding labels_met
+    → Kept (labels_from_above xs p (line ∷ lines)) (xs ++ own p line) p line
+unfolding labels_from_above
 fits-kept line lines xs p t f =
     let xs' = xs ++ own p line in
-    let p' = place_behind xs' p line.statement in
-    let m = labels_met xs' p' lines in
+    let p' = address_behind xs' p line.statement in
+    let m = labels_from_above xs' p' lines in
     kept m xs' (labels_in m p' lines) p line (met lines p' xs' (fits-settled lines xs' p' _ f.1)) f.0.statement.settled f.0.settled
 
-abbrev pub place_of : Located → ℕ
-place_of at = at.place
+abbrev pub address_of : Located → ℕ
+address_of at = at.address
 
 pub state-same : (xs : Labels) (p q : ℕ) (ps qs t u : List ℕ) (sz zs : List (Result ℕ AsmCode)) → p ≡ q → ps ≡ qs → t ≡ u → sz ≡ zs
     → state xs p ps t sz ≡ state xs q qs u zs
@@ -224,18 +224,18 @@ state-same xs p q ps qs t u sz zs a b c d =
 -- the layout of lines under all their labels
 abbrev pub whole_layout : Labels → ℕ → List ℕ → List ℕ → List (Result ℕ AsmCode) → List Line → Layout
 whole_layout m p ps t sz lines =
-    state m (place_after m p lines) (ps ++ map place_of (located m p lines)) (t ++ flat_map (places_of m) (located m p lines))
+    state m (address_after m p lines) (ps ++ map address_of (located m p lines)) (t ++ flat_map (addresses_of m) (located m p lines))
     (sz ++ map Ok (literal_sizes m (located m p lines)))
 
 pub final-is : (lines : List Line) (xs : Labels) (p : ℕ) (ps t : List ℕ) (sz : List (Result ℕ AsmCode)) → Fits xs p t lines
-    → final (state xs p ps t sz) lines ≡ whole_layout (labels_met xs p lines) p ps t sz lines
-unfolding labels_met located place_after
+    → final (state xs p ps t sz) lines ≡ whole_layout (labels_from_above xs p lines) p ps t sz lines
+unfolding labels_from_above located address_after
 final-is [] xs p ps t sz f =
     state-same xs p p ps (ps ++ []) t (t ++ []) sz (sz ++ []) refl (sym (append-nil ps)) (sym (append-nil t)) (sym (append-nil sz))
 final-is (line ∷ lines) xs p ps t sz f =
     let xs' = xs ++ own p line in
-    let p' = place_behind xs' p line.statement in
-    let m = labels_met xs' p' lines in
+    let p' = address_behind xs' p line.statement in
+    let m = labels_from_above xs' p' lines in
     let r = range_of xs' p line.statement in
     let zs = map (size_of xs' p) line.literals in
     let k : Kept m xs' p line = fits-kept line lines xs p t f in
@@ -243,16 +243,16 @@ final-is (line ∷ lines) xs p ps t sz f =
     let ih : final (behind xs p ps t sz line) lines ≡ whole_layout m p' (ps ++ (p ∷ [])) (t ++ r) (sz ++ map Ok zs) lines =
     final-is lines xs' p' (ps ++ (p ∷ [])) (t ++ r) (sz ++ map Ok zs) f.1 in
     ap (λ l. final l lines) (line-behind xs p ps t sz line f.0) ∙ ih
-    ∙ state-same m (place_after m p' lines) (place_after m p' lines)
-    ((ps ++ (p ∷ [])) ++ map place_of rest) (ps ++ (p ∷ map place_of rest))
-    ((t ++ r) ++ flat_map (places_of m) rest) (t ++ (range_of m p line.statement ++ flat_map (places_of m) rest))
+    ∙ state-same m (address_after m p' lines) (address_after m p' lines)
+    ((ps ++ (p ∷ [])) ++ map address_of rest) (ps ++ (p ∷ map address_of rest))
+    ((t ++ r) ++ flat_map (addresses_of m) rest) (t ++ (range_of m p line.statement ++ flat_map (addresses_of m) rest))
     ((sz ++ map Ok zs) ++ map Ok (literal_sizes m rest)) (sz ++ map Ok (map (size_of m p) line.literals ++ literal_sizes m rest))
     refl
-    (append_assoc ps (p ∷ []) (map place_of rest))
-    (append_assoc t r (flat_map (places_of m) rest) ∙ ap (λ n. t ++ (range_with_len p n ++ flat_map (places_of m) rest)) (sym k.size))
+    (append_assoc ps (p ∷ []) (map address_of rest))
+    (append_assoc t r (flat_map (addresses_of m) rest) ∙ ap (λ n. t ++ (range_with_len p n ++ flat_map (addresses_of m) rest)) (sym k.size))
     (append_assoc sz (map Ok zs) (map Ok (literal_sizes m rest))
     ∙ ap (λ l. sz ++ l) (sym (map-append Ok zs (literal_sizes m rest)))
     ∙ ap (λ l. sz ++ map Ok (l ++ literal_sizes m rest)) (sym k.sizes))
-    ∙ ap (λ q. state m (place_after m q lines) (ps ++ (p ∷ map place_of (located m q lines)))
-    (t ++ (range_of m p line.statement ++ flat_map (places_of m) (located m q lines)))
-    (sz ++ map Ok (map (size_of m p) line.literals ++ literal_sizes m (located m q lines)))) (sym k.place)
+    ∙ ap (λ q. state m (address_after m q lines) (ps ++ (p ∷ map address_of (located m q lines)))
+    (t ++ (range_of m p line.statement ++ flat_map (addresses_of m) (located m q lines)))
+    (sz ++ map Ok (map (size_of m p) line.literals ++ literal_sizes m (located m q lines)))) (sym k.address)

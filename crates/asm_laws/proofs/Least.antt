@@ -2,7 +2,7 @@
 use Rattle.std.proofs.Common.{◌≡◌, ◌∙◌, ap, subst, ◌<◌, Bool, true, false, Option, Some, None, refl, arith}
 use Rattle.std.specs.Prelude.{◌||◌}
 use Rattle.mac_layout.specs.declared.error.AsmCode.{AsmCode}
-use Rattle.mac_layout.specs.declared.error.AsmCode.TheVariants.{Syntax, UnknownName, DefinedTwice, DoesNotFit, NotYetDefined, PlaceTooHigh, NoEnd}
+use Rattle.mac_layout.specs.declared.error.AsmCode.TheVariants.{Syntax, UnknownName, DefinedTwice, DoesNotFit, NotYetDefined, AddressTooHigh, NoEnd}
 use Rattle.mac_layout.specs.Faults.{number_of, least, code_if}
 use Rattle.asm_laws.specs.Codes.{IsLeast}
 
@@ -11,14 +11,14 @@ abbrev pub told : Bool → Bool → Bool → Bool → Option AsmCode
 told true unfit early high = Some DefinedTwice
 told false true early high = Some DoesNotFit
 told false false true high = Some NotYetDefined
-told false false false true = Some PlaceTooHigh
+told false false false true = Some AddressTooHigh
 told false false false false = None
 
 abbrev pub so : Bool → Bool → Bool → Bool → AsmCode → Bool
 so twice unfit early high DefinedTwice = twice
 so twice unfit early high DoesNotFit = unfit
 so twice unfit early high NotYetDefined = early
-so twice unfit early high PlaceTooHigh = high
+so twice unfit early high AddressTooHigh = high
 so twice unfit early high _ = false
 
 pub least-told : (a b c d a' b' c' d' : Bool) → least (told a b c d) (told a' b' c' d') ≡ told (a || a') (b || b') (c || c') (d || d')
@@ -49,15 +49,15 @@ least-told false false false false false false true d' = refl
 least-told false false false false false false false true = refl
 least-told false false false false false false false false = refl
 
--- the same for places alone
-pub places-told : (a d : Bool) → least (code_if a DefinedTwice) (code_if d PlaceTooHigh) ≡ told a false false d
+-- the same for addresses alone
+pub addresses-told : (a d : Bool) → least (code_if a DefinedTwice) (code_if d AddressTooHigh) ≡ told a false false d
 unfolding least
-places-told true true = refl
-places-told true false = refl
-places-told false true = refl
-places-told false false = refl
+addresses-told true true = refl
+addresses-told true false = refl
+addresses-told false true = refl
+addresses-told false false = refl
 
-pub high-told : (d : Bool) → code_if d PlaceTooHigh ≡ told false false false d
+pub high-told : (d : Bool) → code_if d AddressTooHigh ≡ told false false false d
 high-told true = refl
 high-told false = refl
 
@@ -80,12 +80,12 @@ told-none false false false false h UnknownName = refl
 told-none false false false false h DefinedTwice = refl
 told-none false false false false h DoesNotFit = refl
 told-none false false false false h NotYetDefined = refl
-told-none false false false false h PlaceTooHigh = refl
+told-none false false false false h AddressTooHigh = refl
 told-none false false false false h NoEnd = refl
 
 pub none-told : (a b c d : Bool) → ((code : AsmCode) → so a b c d code ≡ false) → told a b c d ≡ None
 none-told a b c d h =
-    told-same a b c d false false false false (h DefinedTwice) (h DoesNotFit) (h NotYetDefined) (h PlaceTooHigh)
+    told-same a b c d false false false false (h DefinedTwice) (h DoesNotFit) (h NotYetDefined) (h AddressTooHigh)
 
 -- what is told is the least
 least-at : (b c d : Bool) (code : AsmCode) (a : Bool) → told a b c d ≡ Some code → IsLeast (so a b c d) code
@@ -101,7 +101,7 @@ least-at b c d code true h =
     low b c d DefinedTwice k = absurd (omega (arith, k))
     low b c d DoesNotFit k = absurd (omega (arith, k))
     low b c d NotYetDefined k = absurd (omega (arith, k))
-    low b c d PlaceTooHigh k = absurd (omega (arith, k))
+    low b c d AddressTooHigh k = absurd (omega (arith, k))
     low b c d NoEnd k = refl
 least-at true c d code false h =
     subst (IsLeast (so false true c d)) (same h) (record { so = refl; least = low c d })
@@ -115,7 +115,7 @@ least-at true c d code false h =
     low c d DefinedTwice k = refl
     low c d DoesNotFit k = absurd (omega (arith, k))
     low c d NotYetDefined k = absurd (omega (arith, k))
-    low c d PlaceTooHigh k = absurd (omega (arith, k))
+    low c d AddressTooHigh k = absurd (omega (arith, k))
     low c d NoEnd k = refl
 least-at false true d code false h =
     subst (IsLeast (so false false true d)) (same h) (record { so = refl; least = low d })
@@ -129,21 +129,21 @@ least-at false true d code false h =
     low d DefinedTwice k = refl
     low d DoesNotFit k = refl
     low d NotYetDefined k = absurd (omega (arith, k))
-    low d PlaceTooHigh k = absurd (omega (arith, k))
+    low d AddressTooHigh k = absurd (omega (arith, k))
     low d NoEnd k = refl
 least-at false false true code false h =
     subst (IsLeast (so false false false true)) (same h) (record { so = refl; least = low })
   where
-    same : Some PlaceTooHigh ≡ Some code → PlaceTooHigh ≡ code
+    same : Some AddressTooHigh ≡ Some code → AddressTooHigh ≡ code
     same h = cc
 
-    low : (other : AsmCode) → number_of other < number_of PlaceTooHigh → so false false false true other ≡ false
+    low : (other : AsmCode) → number_of other < number_of AddressTooHigh → so false false false true other ≡ false
     low Syntax k = refl
     low UnknownName k = refl
     low DefinedTwice k = refl
     low DoesNotFit k = refl
     low NotYetDefined k = refl
-    low PlaceTooHigh k = absurd (omega (arith, k))
+    low AddressTooHigh k = absurd (omega (arith, k))
     low NoEnd k = refl
 least-at false false false code false h = absurd (cc)
 
@@ -163,5 +163,5 @@ least-is_told a b c d DoesNotFit h =
     told-same a b c d false true c d (h.least DefinedTwice (grind arith)) h.so refl refl
 least-is_told a b c d NotYetDefined h =
     told-same a b c d false false true d (h.least DefinedTwice (grind arith)) (h.least DoesNotFit (grind arith)) h.so refl
-least-is_told a b c d PlaceTooHigh h =
+least-is_told a b c d AddressTooHigh h =
     told-same a b c d false false false true (h.least DefinedTwice (grind arith)) (h.least DoesNotFit (grind arith)) (h.least NotYetDefined (grind arith)) h.so

@@ -14,13 +14,13 @@ use Rattle.mac_text.specs.declared.syntax.Statement.{Statement}
 use Rattle.mac_text.specs.declared.syntax.Statement.TheVariants as statements
 use Rattle.mac_text.specs.declared.syntax.Line.{Line}
 use Rattle.mac_layout.specs.declared.error.AsmCode.{AsmCode}
-use Rattle.mac_layout.specs.declared.error.AsmCode.TheVariants.{DefinedTwice, PlaceTooHigh}
-use Rattle.mac_layout.specs.Places.{Labels, names_at, count_of, size_of, place_behind, are_among, is_count_settled, is_settled, are_apart}
+use Rattle.mac_layout.specs.declared.error.AsmCode.TheVariants.{DefinedTwice, AddressTooHigh}
+use Rattle.mac_layout.specs.Addresses.{Labels, names_at, count_of, size_of, address_behind, are_among, is_count_settled, is_settled, are_apart}
 use Rattle.mac_asm.specs.Assembly.{are_below}
-use Rattle.asm_laws.specs.Found.{labels_met}
+use Rattle.asm_laws.specs.Found.{labels_from_above}
 use Rattle.mac_layout.specs.Faults.{least, code_of}
 use Rattle.mac_layout.specs.LaidOut.{checked_count, literal_size, Layout, is_taken, taking_size, labels_code, with_labels, statement_code, line_code, with_line}
-use Rattle.asm_laws.specs.Codes.{Met, lines_met, place_met, statement_places, is_literal_unfit, is_statement_unfit}
+use Rattle.asm_laws.specs.Codes.{LineFromAbove, lines_from_above, address_from_above, statement_addresses, is_literal_unfit, is_statement_unfit}
 use Rattle.asm_laws.proofs.Unique.{own, keys-grow}
 use Rattle.asm_laws.proofs.Apart.{apart-parts, apart-join, least-none, code_if-none}
 use Rattle.asm_laws.proofs.Fits.{state, range_of, StatementFits, statement-fits, own-low, low-own, grown-low, if-none}
@@ -39,8 +39,8 @@ measured xs p given = record {
   is = literal-size xs p given;
 }
 
-abbrev pub literals_in : Met → List Sized
-literals_in at = map (measured at.labels at.place) at.line.literals
+abbrev pub literals_in : LineFromAbove → List Sized
+literals_in at = map (measured at.labels at.address) at.line.literals
 
 pub literals-said : (given : List Data) (xs : Labels) (p : ℕ) → map (literal_size xs p) given ≡ map said_of (map (measured xs p) given)
 literals-said [] xs p = refl
@@ -72,7 +72,7 @@ statement-told xs p ps t sz (Some (statements.End at)) e b = absurd (cc)
 statement-told xs p ps t sz (Some (statements.Radix n)) e b = unfit-told (not (nat_le 2 n && nat_le n 10))
 statement-told xs p ps t sz (Some statements.Title) e b = refl
 
--- places behind others are new where none of them is taken
+-- addresses behind others are new where none of them is taken
 apart-test : (t r : List ℕ) → are_apart t ≡ true → are_apart r ≡ true → list_any (is_taken t) r ≡ not (are_apart (t ++ r))
 apart-test t r h k = elim (cases_Bool (are_apart (t ++ r))) [
   | inl e ↦ (apart-parts t r e).2 ∙ sym (not_from_true _ e)
@@ -100,7 +100,7 @@ and-true false b h = absurd (cc)
 below-behind : (t r : List ℕ) → are_below t ≡ true → are_below r ≡ are_below (t ++ r)
 below-behind t r h = and-true (are_below t) (are_below r) h ∙ sym (list_all-append (λ n. nat_lt n 262144) t r)
 
--- a line, by the places that it takes and the code of its statement
+-- a line, by the addresses that it takes and the code of its statement
 pub line-told : (xs : Labels) (p : ℕ) (ps t : List ℕ) (sz : List (Result ℕ AsmCode)) (line : Line) (r : List ℕ) (unfit early : Bool)
     → are_below (values_of xs) ≡ true → are_apart t ≡ true → are_below t ≡ true → are_apart r ≡ true
     → statement_code (with_labels (state xs p ps t sz) line) line.statement ≡ told (list_any (is_taken t) r) unfit early (not (are_below r))
@@ -132,8 +132,8 @@ line-told xs p ps t sz line r unfit early v a b n h =
 
 -- the layout of lines that are right, by what they are met with
 pub record Stood (l : Layout) (xs : Labels) (p : ℕ) (t : List ℕ) (items : List Sized) : Type 0 where
-  pub places : List ℕ
-  pub is : l ≡ state xs p places t (map said_of items)
+  pub addresses : List ℕ
+  pub is : l ≡ state xs p addresses t (map said_of items)
   pub low_labels : are_below (values_of xs) ≡ true
   pub apart : are_apart t ≡ true
   pub low : are_below t ≡ true
@@ -145,17 +145,17 @@ unfolding line_code
 low-behind xs p ps t sz line h b =
     let i = if-none (are_apart (keys_of xs ++ line.labels)) _ h in
     let l = least-none (labels_code (state xs p ps t sz) line) _ i.1 in
-    grown-low xs p line ∙ and_from _ _ b (own-low line.labels p (code_if-none _ PlaceTooHigh l.0))
+    grown-low xs p line ∙ and_from _ _ b (own-low line.labels p (code_if-none _ AddressTooHigh l.0))
 
 pub final-met : (lines : List Line) (xs : Labels) (p : ℕ) (ps t : List ℕ) (items : List Sized)
     → AllRight (state xs p ps t (map said_of items)) lines → are_below (values_of xs) ≡ true → are_apart t ≡ true → are_below t ≡ true
-    → Stood (final (state xs p ps t (map said_of items)) lines) (labels_met xs p lines) (place_met xs p lines)
-    (t ++ flat_map statement_places (lines_met xs p lines)) (items ++ flat_map literals_in (lines_met xs p lines))
-unfolding labels_met place_met lines_met with_labels
+    → Stood (final (state xs p ps t (map said_of items)) lines) (labels_from_above xs p lines) (address_from_above xs p lines)
+    (t ++ flat_map statement_addresses (lines_from_above xs p lines)) (items ++ flat_map literals_in (lines_from_above xs p lines))
+unfolding labels_from_above address_from_above lines_from_above with_labels
 final-met [] xs p ps t items h v a b =
     subst (λ l. Stood (state xs p ps t (map said_of items)) xs p l (items ++ [])) (sym (append-nil t))
     (subst (λ l. Stood (state xs p ps t (map said_of items)) xs p t l) (sym (append-nil items))
-    (record { places = ps; is = refl; low_labels = v; apart = a; low = b }))
+    (record { addresses = ps; is = refl; low_labels = v; apart = a; low = b }))
 final-met (line ∷ lines) xs p ps t items h v a b =
     let xs' = xs ++ own p line in
     let sz = map said_of items in
@@ -164,20 +164,20 @@ final-met (line ∷ lines) xs p ps t items h v a b =
     let own_literals = map (measured xs' p) line.literals in
     let sz' = sz ++ map (literal_size xs' p) line.literals in
     let s = state xs p ps t sz in
-    let p' = place_behind xs' p st in
+    let p' = address_behind xs' p st in
     let r = range_of xs' p st in
     let f : StatementFits xs' p t st = statement-fits xs' p ps' t sz' st (line-statement s line h.0) a in
     let sizes : sz' ≡ map said_of (items ++ own_literals) =
     ap (λ l. sz ++ l) (literals-said line.literals xs' p) ∙ sym (map-append said_of items own_literals) in
     let same : with_line s line ≡ state xs' p' ps' (t ++ r) (map said_of (items ++ own_literals)) =
     behind-line xs p ps t sz line f ∙ ap (λ z. state xs' p' ps' (t ++ r) z) sizes in
-    let rest = lines_met xs' p' lines in
+    let rest = lines_from_above xs' p' lines in
     let i = final-met lines xs' p' ps' (t ++ r) (items ++ own_literals)
     (subst (λ l. AllRight l lines) same h.1) (low-behind xs p ps t sz line h.0 v) f.once
     (list_all-append (λ n. nat_lt n 262144) t r ∙ and_from _ _ b f.low) in
-    subst (λ l. Stood (final l lines) (labels_met xs' p' lines) (place_met xs' p' lines) (t ++ (r ++ flat_map statement_places rest))
+    subst (λ l. Stood (final l lines) (labels_from_above xs' p' lines) (address_from_above xs' p' lines) (t ++ (r ++ flat_map statement_addresses rest))
     (items ++ (own_literals ++ flat_map literals_in rest))) (sym same)
-    (subst (λ l. Stood (final (state xs' p' ps' (t ++ r) (map said_of (items ++ own_literals))) lines) (labels_met xs' p' lines) (place_met xs' p' lines) l
-    (items ++ (own_literals ++ flat_map literals_in rest))) (append_assoc t r (flat_map statement_places rest))
-    (subst (λ l. Stood (final (state xs' p' ps' (t ++ r) (map said_of (items ++ own_literals))) lines) (labels_met xs' p' lines) (place_met xs' p' lines)
-    ((t ++ r) ++ flat_map statement_places rest) l) (append_assoc items own_literals (flat_map literals_in rest)) i))
+    (subst (λ l. Stood (final (state xs' p' ps' (t ++ r) (map said_of (items ++ own_literals))) lines) (labels_from_above xs' p' lines) (address_from_above xs' p' lines) l
+    (items ++ (own_literals ++ flat_map literals_in rest))) (append_assoc t r (flat_map statement_addresses rest))
+    (subst (λ l. Stood (final (state xs' p' ps' (t ++ r) (map said_of (items ++ own_literals))) lines) (labels_from_above xs' p' lines) (address_from_above xs' p' lines)
+    ((t ++ r) ++ flat_map statement_addresses rest) l) (append_assoc items own_literals (flat_map literals_in rest)) i))

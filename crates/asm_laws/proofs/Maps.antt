@@ -13,7 +13,7 @@ use Rattle.mac_text.specs.declared.syntax.Statement.TheVariants as statements
 use Rattle.std.specs.Prelude.{ℤ, pos}
 use Rattle.mac_layout.specs.Values.{◌>>=◌, term_value, signed, value_onto, value_of, natural_of}
 use Rattle.asm_laws.proofs.Options.{bind_same, is_some_bind}
-use Rattle.mac_layout.specs.Places.{Labels, names_at, count_of, size_of, place_behind, is_among, are_among, is_count_settled, is_settled}
+use Rattle.mac_layout.specs.Addresses.{Labels, names_at, count_of, size_of, address_behind, is_among, are_among, is_count_settled, is_settled}
 
 cond-found : {X : Type 0} (b : Bool) (x : X) (p q : Option X) → (is_some q ≡ true → p ≡ q)
     → is_some (cond b (Some x) q) ≡ true
@@ -63,15 +63,15 @@ size-settled xs ys here (data_of.Text f t) h = refl
 size-settled xs ys here (data_of.Block count) h = ap (λ c. unwrap_or c 0) (count-settled xs ys here count h)
 size-settled xs ys here (data_of.Instruction given) h = refl
 
-pub place-settled : (xs ys : Labels) (place : ℕ) (s : Option Statement) → is_settled (keys_of xs) s ≡ true
-    → place_behind (xs ++ ys) place s ≡ place_behind xs place s
-unfolding place_behind
-place-settled xs ys place None h = refl
-place-settled xs ys place (Some (statements.Data given)) h = ap (λ n. place + n) (size-settled xs ys place given h)
-place-settled xs ys place (Some (statements.Loc e)) h = ap (λ c. unwrap_or c place) (count-settled xs ys place e h)
-place-settled xs ys place (Some (statements.End e)) h = refl
-place-settled xs ys place (Some (statements.Radix n)) h = refl
-place-settled xs ys place (Some statements.Title) h = refl
+pub address-settled : (xs ys : Labels) (address : ℕ) (s : Option Statement) → is_settled (keys_of xs) s ≡ true
+    → address_behind (xs ++ ys) address s ≡ address_behind xs address s
+unfolding address_behind
+address-settled xs ys address None h = refl
+address-settled xs ys address (Some (statements.Data given)) h = ap (λ n. address + n) (size-settled xs ys address given h)
+address-settled xs ys address (Some (statements.Loc e)) h = ap (λ c. unwrap_or c address) (count-settled xs ys address e h)
+address-settled xs ys address (Some (statements.End e)) h = refl
+address-settled xs ys address (Some (statements.Radix n)) h = refl
+address-settled xs ys address (Some statements.Title) h = refl
 
 -- an expression is known by the labels above and without literals exactly where all its terms are among them
 pub term-known : (xs : Labels) (here : ℕ) (t : Term) → is_some (term_value (names_at xs here []) t) ≡ is_among (keys_of xs) t

@@ -1,4 +1,4 @@
--- The words of an image do not depend on the order in which they are given, where no place has two.
+-- The words of an image do not depend on the order in which they are given, where no address has two.
 use Rattle.std.proofs.Common.{◌≡◌, ◌∙◌, sym, ap, ℕ, true, false, nat_eq, List, [], ◌∷◌, filter_map, option_map, Option, Some, None, refl}
 use Rattle.std.specs.Prelude.{◌^◌, not}
 use Rattle.std.specs.Cmp.{nat_eq_equiv}
@@ -9,8 +9,8 @@ use Rattle.std.proofs.lemmas.Bool.{and_parts, or_parts, not-true, eqb-true}
 use Rattle.std.proofs.lemmas.List.Sorted.{IsPermutation-sym, IsPermutation-map, Contains-permutation}
 use Rattle.std.proofs.lemmas.Map.Keys.{IsDistinct-IsPermutation}
 use Rattle.std.proofs.lemmas.Map.Views.{Contains-from_lookup, lookup-from_Contains}
-use Rattle.mac_layout.specs.Places.{are_apart}
-use Rattle.mac_asm.specs.Assembly.{word_at, by_place}
+use Rattle.mac_layout.specs.Addresses.{are_apart}
+use Rattle.mac_asm.specs.Assembly.{word_at, by_address}
 use Rattle.asm_laws.proofs.Apart.{nat_eq-sym}
 
 all-unequal : (n : ℕ) (ns : List ℕ) → list_any (nat_eq n) ns ≡ false → AllByRecursion (λ y. nat_eq n y ≡ false) ns
@@ -55,6 +55,6 @@ same-words a b h (k ∷ ks) =
     ap (λ o. cons_option (option_map (λ word. (k, word)) o) (filter_map (word_at a) ks)) (h k)
     ∙ ap (λ l. cons_option (word_at b k) l) (same-words a b h ks)
 
-pub by_place-permuted : (a b : List (ℕ × ℕ)) → are_apart (keys_of a) ≡ true → IsPermutation a b → by_place a ≡ by_place b
-unfolding by_place
-by_place-permuted a b h p = same-words a b (λ k. same-lookup a b k h p) (range_with_len 0 (2 ^ 18))
+pub by_address-permuted : (a b : List (ℕ × ℕ)) → are_apart (keys_of a) ≡ true → IsPermutation a b → by_address a ≡ by_address b
+unfolding by_address
+by_address-permuted a b h p = same-words a b (λ k. same-lookup a b k h p) (range_with_len 0 (2 ^ 18))

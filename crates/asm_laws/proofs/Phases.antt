@@ -14,15 +14,15 @@ use Rattle.mac_text.specs.declared.syntax.Statement.{Statement}
 use Rattle.mac_text.specs.declared.syntax.Statement.TheVariants as statements
 use Rattle.mac_text.specs.declared.syntax.Line.{Line}
 use Rattle.mac_layout.specs.declared.error.AsmCode.{AsmCode}
-use Rattle.mac_layout.specs.declared.error.AsmCode.TheVariants.{Syntax, UnknownName, DefinedTwice, DoesNotFit, NotYetDefined, PlaceTooHigh, NoEnd}
+use Rattle.mac_layout.specs.declared.error.AsmCode.TheVariants.{Syntax, UnknownName, DefinedTwice, DoesNotFit, NotYetDefined, AddressTooHigh, NoEnd}
 use Rattle.std.specs.Prelude.{ℤ}
 use Rattle.mac_layout.specs.Values.{value_of, natural_of}
-use Rattle.mac_layout.specs.Places.{Labels, names_at, Placed, first_place, are_apart}
+use Rattle.mac_layout.specs.Addresses.{Labels, names_at, Placed, first_address, are_apart}
 use Rattle.mac_asm.specs.Assembly.{Assembled, start_at}
 use Rattle.mac_layout.specs.Faults.{Fault, number_of, least, code_if, code_of, unless_fault}
 use Rattle.mac_layout.specs.LaidOut.{count_if, count_from, count_or, checked_count, checked_size, at_least_one, literal_size, Layout}
-use Rattle.mac_layout.specs.LaidOut.{empty_layout, places_in, taking, taking_size, taking_all, labels_code, with_labels, with_statement}
-use Rattle.mac_layout.specs.LaidOut.{statement_code, line_code, laid_out, places_of_literals, with_line as layout_behind}
+use Rattle.mac_layout.specs.LaidOut.{empty_layout, addresses_in, taking, taking_size, taking_all, labels_code, with_labels, with_statement}
+use Rattle.mac_layout.specs.LaidOut.{statement_code, line_code, laid_out, addresses_of_literals, with_line as layout_behind}
 use Rattle.mac_asm.specs.Outcome.{lines_with, line_words, has_start, is_line_known, value_code, and_words, words_given}
 use Rattle.mac_asm.specs.Outcome.{image_with, outcome_placed, outcome_from, has_end, outcome_read, outcome_of}
 use Rattle.asm_laws.proofs.Unique.{own}
@@ -32,7 +32,7 @@ abbrev pub of_layout : AsmCode → Bool
 of_layout DefinedTwice = true
 of_layout DoesNotFit = true
 of_layout NotYetDefined = true
-of_layout PlaceTooHigh = true
+of_layout AddressTooHigh = true
 of_layout _ = false
 
 abbrev pub of_values : AsmCode → Bool
@@ -68,7 +68,7 @@ passes-code_of q (Err code) h = h
 
 layout-taking : (t : List ℕ) (p n : ℕ) → passes of_layout (taking t p n) ≡ true
 unfolding taking
-layout-taking t p n = passes-least of_layout _ _ (passes-code_if of_layout _ DefinedTwice refl) (passes-code_if of_layout _ PlaceTooHigh refl)
+layout-taking t p n = passes-least of_layout _ _ (passes-code_if of_layout _ DefinedTwice refl) (passes-code_if of_layout _ AddressTooHigh refl)
 
 layout-taking_size : (t : List ℕ) (p : ℕ) (r : Result ℕ AsmCode) → may_fail of_layout r ≡ true → passes of_layout (taking_size t p r) ≡ true
 layout-taking_size t p (Ok n) h = layout-taking t p n
@@ -81,7 +81,7 @@ layout-taking_all [] t p h = refl
 layout-taking_all (r ∷ sizes) t p h =
     let b = and_parts (may_fail of_layout r) _ h in
     passes-least of_layout _ _ (layout-taking_size t p r b.0)
-    (layout-taking_all sizes (t ++ places_in p (count_or 0 r)) (p + count_or 0 r) b.1)
+    (layout-taking_all sizes (t ++ addresses_in p (count_or 0 r)) (p + count_or 0 r) b.1)
 
 layout-count_if : (o : Option ℕ) → may_fail of_layout (count_if o) ≡ true
 layout-count_if None = refl
@@ -123,9 +123,9 @@ layout-statement : (s : Layout) (st : Option Statement) → list_all (may_fail o
     → passes of_layout (statement_code s st) ≡ true
 unfolding statement_code
 layout-statement s None h = refl
-layout-statement s (Some (statements.Data given)) h = layout-taking_size s.taken s.place _ (layout-size s.labels s.place given)
-layout-statement s (Some (statements.Loc e)) h = passes-code_of of_layout _ (layout-count s.labels s.place e)
-layout-statement s (Some (statements.End e)) h = layout-taking_all s.sizes s.taken s.place h
+layout-statement s (Some (statements.Data given)) h = layout-taking_size s.taken s.address _ (layout-size s.labels s.address given)
+layout-statement s (Some (statements.Loc e)) h = passes-code_of of_layout _ (layout-count s.labels s.address e)
+layout-statement s (Some (statements.End e)) h = layout-taking_all s.sizes s.taken s.address h
 layout-statement s (Some (statements.Radix n)) h = passes-code_if of_layout _ DoesNotFit refl
 layout-statement s (Some statements.Title) h = refl
 
@@ -138,14 +138,14 @@ layout-sizes : (s : Layout) (line : Line) → list_all (may_fail of_layout) s.si
     → list_all (may_fail of_layout) (with_labels s line).sizes ≡ true
 unfolding with_labels
 layout-sizes s line h =
-    list_all-append (may_fail of_layout) s.sizes (map (literal_size (s.labels ++ own s.place line) s.place) line.literals)
-    ∙ and_from _ _ h (layout-literals line.literals (s.labels ++ own s.place line) s.place)
+    list_all-append (may_fail of_layout) s.sizes (map (literal_size (s.labels ++ own s.address line) s.address) line.literals)
+    ∙ and_from _ _ h (layout-literals line.literals (s.labels ++ own s.address line) s.address)
 
 layout-line : (s : Layout) (line : Line) → list_all (may_fail of_layout) s.sizes ≡ true → passes of_layout (line_code s line) ≡ true
 unfolding line_code
 layout-line s line h =
     passes-twice (are_apart (keys_of s.labels ++ line.labels)) _
-    (passes-least of_layout (labels_code s line) _ (passes-code_if of_layout _ PlaceTooHigh refl)
+    (passes-least of_layout (labels_code s line) _ (passes-code_if of_layout _ AddressTooHigh refl)
     (layout-statement (with_labels s line) line.statement (layout-sizes s line h)))
 
 same-sizes : (s : Layout) (line : Line) → (layout_behind s line).sizes ≡ (with_labels s line).sizes
@@ -208,7 +208,7 @@ layout-lines UnknownName h = refl
 layout-lines DefinedTwice h = refl
 layout-lines DoesNotFit h = refl
 layout-lines NotYetDefined h = refl
-layout-lines PlaceTooHigh h = refl
+layout-lines AddressTooHigh h = refl
 layout-lines NoEnd h = absurd (cc)
 
 values-lines : (code : AsmCode) → of_values code ≡ true → of_lines code ≡ true
@@ -217,7 +217,7 @@ values-lines UnknownName h = refl
 values-lines DefinedTwice h = refl
 values-lines DoesNotFit h = refl
 values-lines NotYetDefined h = refl
-values-lines PlaceTooHigh h = refl
+values-lines AddressTooHigh h = refl
 values-lines NoEnd h = absurd (cc)
 
 from-codes : (lines : List Line) (r : Result Layout Fault) (fault : Fault) → outcome_from lines r ≡ Err fault
@@ -225,8 +225,8 @@ from-codes : (lines : List Line) (r : Result Layout Fault) (fault : Fault) → o
     → of_lines fault.code ≡ true
 unfolding outcome_placed
 from-codes lines (Ok s) fault h f =
-    let at = lines_with s.labels s.places (places_of_literals s) lines in
-    values-lines fault.code (values-codes at 1 fault (image-err (unwrap_or (start_at at) first_place) (words_given 1 at) fault h))
+    let at = lines_with s.labels s.addresses (addresses_of_literals s) lines in
+    values-lines fault.code (values-codes at 1 fault (image-err (unwrap_or (start_at at) first_address) (words_given 1 at) fault h))
 from-codes lines (Err g) fault h f = layout-lines fault.code (f fault (cc))
 
 lines-codes : (lines : List Line) (fault : Fault) → outcome_from lines (laid_out empty_layout 1 lines) ≡ Err fault

@@ -1,4 +1,4 @@
--- The words of an image rise by place, and are the words that were given.
+-- The words of an image rise by address, and are the words that were given.
 use Rattle.std.proofs.Common.{◌≡◌, ◌∙◌, sym, ap, subst, ℕ, zero, suc, ◌+◌, ◌<◌, ◌≤◌, true, false, cond, nat_eq, List}
 use Rattle.std.proofs.Common.{filter_map, Option, Some, None, option_map, ◌⊎◌, inl, inr, refl, arith}
 use Rattle.std.specs.Prelude.{◌^◌}
@@ -11,9 +11,9 @@ use Rattle.std.specs.declared.cmp.Ordering.TheVariants.{Less}
 use Rattle.std.proofs.lemmas.Map.Keys.{IsStrictlyIncreasing-from_sorted}
 use Rattle.std.proofs.lemmas.Grind.{common_steps}
 use Rattle.std.proofs.Math.Nat.{eq-or-lt_of_le}
-use Rattle.mac_asm.specs.Assembly.{word_at, by_place}
+use Rattle.mac_asm.specs.Assembly.{word_at, by_address}
 
--- the words of n places from a on
+-- the words of n addresses from a on
 abbrev slice : List (ℕ × ℕ) → ℕ → ℕ → List (ℕ × ℕ)
 slice words a n = filter_map (word_at words) (range_with_len a n)
 
@@ -49,9 +49,9 @@ sorted words a (suc n) =
     let next : a < a + 1 = omega arith in
     front-sorted a (lookup (nat_eq a) words) (slice words (a + 1) n) (above words a (a + 1) n next) (sorted words (a + 1) n)
 
-pub places_rise : (words : List (ℕ × ℕ)) → IsStrictlyIncreasing (keys_of (by_place words))
-unfolding by_place
-places_rise words = IsStrictlyIncreasing-from_sorted (keys_of (slice words 0 (2 ^ 18))) (sorted words 0 (2 ^ 18))
+pub addresses_rise : (words : List (ℕ × ℕ)) → IsStrictlyIncreasing (keys_of (by_address words))
+unfolding by_address
+addresses_rise words = IsStrictlyIncreasing-from_sorted (keys_of (slice words 0 (2 ^ 18))) (sorted words 0 (2 ^ 18))
 
 miss : (p a : ℕ) (o : Option ℕ) (rest : List (ℕ × ℕ)) → nat_eq p a ≡ false
     → lookup (nat_eq p) (front a o rest) ≡ lookup (nat_eq p) rest
@@ -81,8 +81,8 @@ hit a (Some w) rest h = ap (λ b. cond b (Some w) (lookup (nat_eq a) rest)) (equ
 in_slice : (words : List (ℕ × ℕ)) (p a n : ℕ) → a ≤ p → p < a + n → lookup (nat_eq p) (slice words a n) ≡ lookup (nat_eq p) words
 in_slice words p a zero l h = absurd (omega arith)
 in_slice words p a (suc n) l h =
-    let places : (a ≡ p) ⊎ (a < p) = eq-or-lt_of_le l in
-    elim places [
+    let addresses : (a ≡ p) ⊎ (a < p) = eq-or-lt_of_le l in
+    elim addresses [
       | inl e ↦ subst (λ q. lookup (nat_eq q) (slice words a (suc n)) ≡ lookup (nat_eq q) words) e
           (let next : a < a + 1 = omega arith in
           hit a (lookup (nat_eq a) words) (slice words (a + 1) n) (none-above words a (a + 1) n next))
@@ -93,10 +93,10 @@ in_slice words p a (suc n) l h =
           ∙ in_slice words p (a + 1) n least most
     ]
 
-pub words_are_kept : (words : List (ℕ × ℕ)) (place : ℕ) → place < 2 ^ 18
-    → lookup (nat_eq place) (by_place words) ≡ lookup (nat_eq place) words
-unfolding by_place
-words_are_kept words place h =
-    let least : 0 ≤ place = omega arith in
-    let most : place < 0 + 2 ^ 18 = omega (arith, h) in
-    in_slice words place 0 (2 ^ 18) least most
+pub words_are_kept : (words : List (ℕ × ℕ)) (address : ℕ) → address < 2 ^ 18
+    → lookup (nat_eq address) (by_address words) ≡ lookup (nat_eq address) words
+unfolding by_address
+words_are_kept words address h =
+    let least : 0 ≤ address = omega arith in
+    let most : address < 0 + 2 ^ 18 = omega (arith, h) in
+    in_slice words address 0 (2 ^ 18) least most

@@ -13,7 +13,7 @@ use Rattle.std.specs.Prelude.{ℤ, pos}
 use Rattle.mac_layout.specs.Values.{◌>>=◌, term_value, signed, value_onto, value_of, natural_of}
 use Rattle.mac_layout.specs.TextSizes.{words_in}
 use Rattle.mac_asm.specs.Words.{words_of, words_of_all, text_word, text_words_from, alone}
-use Rattle.mac_layout.specs.Places.{Labels, names_at, count_of, size_of, is_among, are_among, is_count_settled}
+use Rattle.mac_layout.specs.Addresses.{Labels, names_at, count_of, size_of, is_among, are_among, is_count_settled}
 use Rattle.mac_asm.specs.Assembly.{all_words_of}
 use Rattle.asm_laws.proofs.Options.{some_parts, bind_some, bind_same}
 

@@ -9,7 +9,7 @@ use Rattle.mac_text.specs.declared.syntax.Data.TheVariants as data_of
 use Rattle.mac_layout.specs.declared.error.AsmCode.{AsmCode}
 use Rattle.mac_layout.specs.declared.error.AsmCode.TheVariants.{DoesNotFit, NotYetDefined}
 use Rattle.mac_layout.specs.Values.{◌>>=◌, value_of, natural_of}
-use Rattle.mac_layout.specs.Places.{Labels, names_at, count_of, size_of, are_among, is_count_settled}
+use Rattle.mac_layout.specs.Addresses.{Labels, names_at, count_of, size_of, are_among, is_count_settled}
 use Rattle.mac_layout.specs.LaidOut.{count_if, count_from, checked_count, checked_size, at_least_one, literal_size, count_or}
 use Rattle.asm_laws.specs.Codes.{is_negative, is_data_unfit, is_literal_unfit}
 use Rattle.asm_laws.proofs.Maps.{value-known}

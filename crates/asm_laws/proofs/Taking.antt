@@ -1,4 +1,4 @@
--- Which code is told of places that are taken.
+-- Which code is told of addresses that are taken.
 use Rattle.std.proofs.Common.{◌≡◌, ◌∙◌, sym, ap, ℕ, zero, suc, ◌+◌, ◌-◌, ◌<◌, ◌≤◌, Bool, true, false, ◌&&◌, nat_eq}
 use Rattle.std.proofs.Common.{List, [], ◌∷◌, ◌++◌, map, Result, refl, arith, inl, inr}
 use Rattle.std.specs.Prelude.{◌^◌, ◌||◌, ◌==◌, not, nat_le, nat_lt, if◌then◌else◌}
@@ -7,17 +7,17 @@ use Rattle.std.proofs.lemmas.Bool.{and_parts, and_from, or_from, cases_Bool, tru
 use Rattle.std.proofs.lemmas.List.Folds.{list_any-append, list_all-append}
 use Rattle.std.proofs.lemmas.Grind.{common_steps}
 use Rattle.mac_layout.specs.declared.error.AsmCode.{AsmCode}
-use Rattle.mac_layout.specs.Places.{are_apart}
+use Rattle.mac_layout.specs.Addresses.{are_apart}
 use Rattle.mac_asm.specs.Assembly.{are_below}
 use Rattle.mac_layout.specs.Faults.{least}
-use Rattle.mac_layout.specs.LaidOut.{is_taken, places_in, count_or, taking, taking_size, taking_all}
+use Rattle.mac_layout.specs.LaidOut.{is_taken, addresses_in, count_or, taking, taking_size, taking_all}
 use Rattle.asm_laws.specs.Laws.{ranges_from}
 use Rattle.asm_laws.proofs.Apart.{apart-join, range-apart, free-high, high-free, lt-from}
 use Rattle.asm_laws.proofs.Clear.{no-true}
-use Rattle.asm_laws.proofs.Least.{told, least-told, places-told, told-same}
+use Rattle.asm_laws.proofs.Least.{told, least-told, addresses-told, told-same}
 use Rattle.asm_laws.proofs.Sizing.{said, IsSize, said-counts}
 
--- no place that was taken lies at 2 ^ 18 or above
+-- no address that was taken lies at 2 ^ 18 or above
 not-above : (t : List ℕ) (p : ℕ) → are_below t ≡ true → 2 ^ 18 ≤ p → is_taken t p ≡ false
 not-above [] p h k = refl
 not-above (x ∷ t) p h k =
@@ -45,10 +45,10 @@ any-cut (suc n) (suc k) p t h g b =
     let high : 2 ^ 18 ≤ p + 1 + k = omega (arith, g) in
     ap (λ r. is_taken t p || r) (any-cut n k (p + 1) t less high b)
 
--- of places in a row only those below 2 ^ 18 can be taken
-any-places : (p n : ℕ) (t : List ℕ) → are_below t ≡ true
-    → list_any (is_taken t) (places_in p n) ≡ list_any (is_taken t) (range_with_len p n)
-any-places p n t b = test (nat_le n (2 ^ 18 - p)) refl
+-- of addresses in a row only those below 2 ^ 18 can be taken
+any-addresses : (p n : ℕ) (t : List ℕ) → are_below t ≡ true
+    → list_any (is_taken t) (addresses_in p n) ≡ list_any (is_taken t) (range_with_len p n)
+any-addresses p n t b = test (nat_le n (2 ^ 18 - p)) refl
   where
     less : (n p : ℕ) → nat_le n (2 ^ 18 - p) ≡ false → (2 ^ 18 - p ≤ n) × (2 ^ 18 ≤ p + (2 ^ 18 - p))
     less n p h = (first n (2 ^ 18 - p) h, second p (2 ^ 18))
@@ -66,8 +66,8 @@ any-places p n t b = test (nat_le n (2 ^ 18 - p)) refl
         ap (λ c. list_any (is_taken t) (range_with_len p (if c then n else 2 ^ 18 - p))) h
         ∙ any-cut n (2 ^ 18 - p) p t (less n p h).0 (less n p h).1 b
 
-low-places : (n p : ℕ) → are_below (places_in p n) ≡ true
-low-places n p = low (if nat_le n (2 ^ 18 - p) then n else 2 ^ 18 - p) p (fits n p (2 ^ 18))
+low-addresses : (n p : ℕ) → are_below (addresses_in p n) ≡ true
+low-addresses n p = low (if nat_le n (2 ^ 18 - p) then n else 2 ^ 18 - p) p (fits n p (2 ^ 18))
   where
     fits : (n p m : ℕ) → (if nat_le n (m - p) then n else m - p) ≤ m - p
     fits n p m = grind (arith, common_steps)
@@ -93,8 +93,8 @@ taking-told : (t : List ℕ) (p n : ℕ) → are_below t ≡ true
     → taking t p n ≡ told (list_any (is_taken t) (range_with_len p n)) false false (not (are_below (range_with_len p n)))
 unfolding taking
 taking-told t p n b =
-    places-told (list_any (is_taken t) (places_in p n)) _
-    ∙ ap (λ x. told x false false (not (n == 0) && not (nat_le (p + n) (2 ^ 18)))) (any-places p n t b)
+    addresses-told (list_any (is_taken t) (addresses_in p n)) _
+    ∙ ap (λ x. told x false false (not (n == 0) && not (nat_le (p + n) (2 ^ 18)))) (any-addresses p n t b)
     ∙ ap (λ x. told (list_any (is_taken t) (range_with_len p n)) false false x) (high-test p n)
 
 pub size-told : (t : List ℕ) (p : ℕ) (e u : Bool) (n : ℕ) → IsSize e u n → are_below t ≡ true
@@ -125,7 +125,7 @@ early_in s = s.early
 abbrev pub unfit_in : Sized → Bool
 unfit_in s = s.unfit
 
--- places behind others are not among them
+-- addresses behind others are not among them
 behind-row : (n p x : ℕ) → p + n ≤ x → list_any (nat_eq x) (range_with_len p n) ≡ false
 behind-row zero p x h = refl
 behind-row (suc n) p x h =
@@ -173,8 +173,8 @@ grown-taken (x ∷ xs) a b h = step (is_taken b x) refl (grown-taken xs a b)
         ap (λ c. c || list_any (is_taken (a ++ b)) xs) (list_any-append (nat_eq x) a b ∙ ap (λ c. is_taken a x || c) e ∙ without (is_taken a x))
         ∙ ap (λ c. is_taken a x || c) (f (sym (ap (λ c. c || list_any (is_taken b) xs) e) ∙ h))
 
-places-behind : (zs : List ℕ) (p n : ℕ) → list_any (is_taken (places_in p n)) (ranges_from (p + n) zs) ≡ false
-places-behind zs p n = ranges-behind zs (p + n) (if nat_le n (2 ^ 18 - p) then n else 2 ^ 18 - p) p (less n p (2 ^ 18 - p))
+addresses-behind : (zs : List ℕ) (p n : ℕ) → list_any (is_taken (addresses_in p n)) (ranges_from (p + n) zs) ≡ false
+addresses-behind zs p n = ranges-behind zs (p + n) (if nat_le n (2 ^ 18 - p) then n else 2 ^ 18 - p) p (less n p (2 ^ 18 - p))
   where
     less : (n p m : ℕ) → p + (if nat_le n m then n else m) ≤ p + n
     less n p m = grind (arith, common_steps)
@@ -195,18 +195,18 @@ all-told (i ∷ items) t p b =
     let r = said i.early i.unfit n in
     let here = range_with_len p n in
     let later = ranges_from (p + n) (map size_in items) in
-    let t' = t ++ places_in p n in
+    let t' = t ++ addresses_in p n in
     let b' : are_below t' ≡ true =
-    list_all-append (λ n. nat_lt n 262144) t (places_in p n) ∙ and_from _ _ b (low-places n p) in
+    list_all-append (λ n. nat_lt n 262144) t (addresses_in p n) ∙ and_from _ _ b (low-addresses n p) in
     let counts : count_or 0 r ≡ n = said-counts i.early i.unfit n i.is in
-    ap (λ k. least (taking_size t p r) (taking_all (t ++ places_in p k) (p + k) (map said_of items))) counts
+    ap (λ k. least (taking_size t p r) (taking_all (t ++ addresses_in p k) (p + k) (map said_of items))) counts
     ∙ ap (λ x. least x (taking_all t' (p + n) (map said_of items))) (size-told t p i.early i.unfit n i.is b)
     ∙ ap (λ x. least (told (list_any (is_taken t) here) i.unfit i.early (not (are_below here))) x) (all-told items t' (p + n) b')
     ∙ least-told (list_any (is_taken t) here) i.unfit i.early (not (are_below here))
     (list_any (is_taken t') later) (list_any unfit_in items) (list_any early_in items) (not (are_below later))
     ∙ told-same _ _ _ _ (list_any (is_taken t) (here ++ later)) (i.unfit || list_any unfit_in items) (i.early || list_any early_in items)
     (not (are_below (here ++ later)))
-    (ap (λ x. list_any (is_taken t) here || x) (grown-taken later t (places_in p n) (places-behind (map size_in items) p n))
+    (ap (λ x. list_any (is_taken t) here || x) (grown-taken later t (addresses_in p n) (addresses-behind (map size_in items) p n))
     ∙ sym (list_any-append (is_taken t) here later))
     refl refl
     (sym (not-both (are_below here) (are_below later)) ∙ ap not (sym (list_all-append (λ n. nat_lt n 262144) here later)))

@@ -14,33 +14,33 @@ use Rattle.mac_text.specs.declared.syntax.Statement.TheVariants as statements
 use Rattle.mac_text.specs.declared.syntax.Line.{Line}
 use Rattle.mac_layout.specs.declared.error.AsmCode.TheVariants.{NoEnd}
 use Rattle.mac_layout.specs.Values.{Names}
-use Rattle.mac_layout.specs.Places.{Labels, names_at, located, place_behind, place_after, literal_sizes, places_from, Placed, placed, first_place, are_apart}
-use Rattle.mac_asm.specs.Assembly.{Assembled, IsAssembly, lines_at, literal_places, lines_placed, all_statement_words, all_literal_words}
-use Rattle.mac_asm.specs.Assembly.{words_at, have_words, are_allowed, start_by, start_at, by_place, are_below}
+use Rattle.mac_layout.specs.Addresses.{Labels, names_at, located, address_behind, address_after, literal_sizes, addresses_from, Placed, placed, first_address, are_apart}
+use Rattle.mac_asm.specs.Assembly.{Assembled, IsAssembly, lines_at, literal_addresses, lines_placed, all_statement_words, all_literal_words}
+use Rattle.mac_asm.specs.Assembly.{words_at, have_words, are_allowed, start_by, start_at, by_address, are_below}
 use Rattle.asm_laws.specs.Found.{map_of}
 use Rattle.mac_layout.specs.Faults.{Fault}
-use Rattle.mac_layout.specs.LaidOut.{count_or, Layout, empty_layout, taking_all, laid_out, places_of_literals}
+use Rattle.mac_layout.specs.LaidOut.{count_or, Layout, empty_layout, taking_all, laid_out, addresses_of_literals}
 use Rattle.mac_asm.specs.Outcome.{lines_with, has_start, words_given, image_with, outcome_placed, outcome_from, has_end, outcome_read, outcome_of}
-use Rattle.asm_laws.specs.Laws.{places_of, ranges_from, places_taken}
+use Rattle.asm_laws.specs.Laws.{addresses_of, ranges_from, addresses_taken}
 use Rattle.asm_laws.proofs.Options.{some_parts, bind_some, bind_at}
 use Rattle.asm_laws.proofs.Found.{map_is_met, met_only}
-use Rattle.asm_laws.proofs.Taken.{takes_its_places}
+use Rattle.asm_laws.proofs.Taken.{takes_its_addresses}
 use Rattle.asm_laws.proofs.Apart.{apart-parts}
 use Rattle.asm_laws.proofs.Counts.{all-known, all-taken, taken-all}
 use Rattle.asm_laws.proofs.Ends.{ends_once, end-is-last}
-use Rattle.asm_laws.proofs.Layouts.{AllRight, final, laid-right, right-laid, Fits, right-fits, end-right, fits-right, place_of, whole_layout, final-is}
+use Rattle.asm_laws.proofs.Layouts.{AllRight, final, laid-right, right-laid, Fits, right-fits, end-right, fits-right, address_of, whole_layout, final-is}
 use Rattle.asm_laws.proofs.Wholes.{Whole, fits-whole, whole-fits}
 use Rattle.asm_laws.proofs.Given.{starts, Gathers, words-gather, gather-words}
-use Rattle.asm_laws.proofs.Order.{by_place-permuted}
+use Rattle.asm_laws.proofs.Order.{by_address-permuted}
 
--- the lines with the layout's places are the lines with theirs
+-- the lines with the layout's addresses are the lines with theirs
 with-placed : (lines : List Line) (m : Labels) (p : ℕ) (lits : List ℕ)
-    → lines_with m (map place_of (located m p lines)) lits lines ≡ placed m (located m p lines) lits
+    → lines_with m (map address_of (located m p lines)) lits lines ≡ placed m (located m p lines) lits
 unfolding lines_with located placed
 with-placed [] m p lits = refl
 with-placed (line ∷ lines) m p lits =
     ap (λ l. record { names = names_at m p (take (length line.literals) lits); line = line } ∷ l)
-    (with-placed lines m (place_behind m p line.statement) (drop (length line.literals) lits))
+    (with-placed lines m (address_behind m p line.statement) (drop (length line.literals) lits))
 
 counted : (zs : List ℕ) → map (count_or 0) (map Ok zs) ≡ zs
 counted [] = refl
@@ -53,7 +53,7 @@ pub placed-lines : (lines : List Line) (m : Labels) (p : ℕ) (lits : List ℕ) 
 unfolding located placed
 placed-lines [] m p lits = refl
 placed-lines (line ∷ lines) m p lits =
-    ap (λ l. line ∷ l) (placed-lines lines m (place_behind m p line.statement) (drop (length line.literals) lits))
+    ap (λ l. line ∷ l) (placed-lines lines m (address_behind m p line.statement) (drop (length line.literals) lits))
 
 end-start : (names : Names) (s : Option Statement) → is_end_statement s ≡ true → has_start names s ≡ is_some (start_by names s)
 unfolding has_start
@@ -108,14 +108,14 @@ known-some None h = absurd (cc)
 known-some (Some x) h = (x, refl)
 
 from-ok : (lines : List Line) (r : Result Layout Fault) (image : Assembled) → outcome_from lines r ≡ Ok image
-    → (s : Layout) × (r ≡ Ok s) × (outcome_placed (lines_with s.labels s.places (places_of_literals s) lines) ≡ Ok image)
+    → (s : Layout) × (r ≡ Ok s) × (outcome_placed (lines_with s.labels s.addresses (addresses_of_literals s) lines) ≡ Ok image)
 from-ok lines (Ok s) image h = (s, refl, h)
 from-ok lines (Err fault) image h = absurd (cc)
 
 with-ok : (start : ℕ) (r : Result (List (ℕ × ℕ)) Fault) (image : Assembled) → image_with start r ≡ Ok image
-    → (ws : List (ℕ × ℕ)) × (r ≡ Ok ws) × (image.words ≡ by_place (reverse ws)) × (image.start ≡ start)
+    → (ws : List (ℕ × ℕ)) × (r ≡ Ok ws) × (image.words ≡ by_address (reverse ws)) × (image.start ≡ start)
 with-ok start (Ok ws) image h =
-    let same : record { words = by_place (reverse ws); start = start } ≡ image = cc in
+    let same : record { words = by_address (reverse ws); start = start } ≡ image = cc in
     (ws, refl, ap (λ x. x.words) (sym same), ap (λ x. x.start) (sym same))
 with-ok start (Err fault) image h = absurd (cc)
 
@@ -134,24 +134,24 @@ read-ok (Err n) image h = absurd (cc)
 
 -- the layout of all lines
 abbrev pub layout_of : List Line → Layout
-layout_of lines = whole_layout (map_of lines) first_place [] [] [] lines
+layout_of lines = whole_layout (map_of lines) first_address [] [] [] lines
 
 pub layout-placed : (lines : List Line)
-    → lines_with (map_of lines) (layout_of lines).places (places_of_literals (layout_of lines)) lines ≡ lines_placed (map_of lines) lines
+    → lines_with (map_of lines) (layout_of lines).addresses (addresses_of_literals (layout_of lines)) lines ≡ lines_placed (map_of lines) lines
 layout-placed lines =
     let m = map_of lines in
-    ap (λ z. lines_with m (map place_of (lines_at m lines)) (places_from (place_after m first_place lines) z) lines)
+    ap (λ z. lines_with m (map address_of (lines_at m lines)) (addresses_from (address_after m first_address lines) z) lines)
     (counted (literal_sizes m (lines_at m lines)))
-    ∙ with-placed lines m first_place (literal_places m lines)
+    ∙ with-placed lines m first_address (literal_addresses m lines)
 
 all-append : (xs ys : List ℕ) → are_below (xs ++ ys) ≡ (are_below xs && are_below ys)
 all-append xs ys = list_all-append (λ n. nat_lt n 262144) xs ys
 
 -- what is so of lines that are laid out
 pub record LaidOut (lines : List Line) (s : Layout) : Type 0 where
-  pub fits : Fits [] first_place [] lines
+  pub fits : Fits [] first_address [] lines
   pub layout : s ≡ layout_of lines
-  pub full : taking_all (layout_of lines).taken (layout_of lines).place (layout_of lines).sizes ≡ None
+  pub full : taking_all (layout_of lines).taken (layout_of lines).address (layout_of lines).sizes ≡ None
 
 pub laid-layout : (lines : List Line) (s : Layout) → has_end lines ≡ true → laid_out empty_layout 1 lines ≡ Ok s → LaidOut lines s
 unfolding are_apart
@@ -159,45 +159,45 @@ laid-layout lines s h l =
     let r = laid-right lines empty_layout 1 s l in
     let full = end-right lines empty_layout h r.0 in
     let last = final empty_layout lines in
-    let f : Fits [] first_place [] lines =
-    right-fits lines [] first_place [] [] [] r.0 (all-known last.taken last.place last.sizes full) refl refl in
-    let same : final empty_layout lines ≡ layout_of lines = final-is lines [] first_place [] [] [] f in
-    record { fits = f; layout = sym r.1 ∙ same; full = subst (λ x. taking_all x.taken x.place x.sizes ≡ None) same full }
+    let f : Fits [] first_address [] lines =
+    right-fits lines [] first_address [] [] [] r.0 (all-known last.taken last.address last.sizes full) refl refl in
+    let same : final empty_layout lines ≡ layout_of lines = final-is lines [] first_address [] [] [] f in
+    record { fits = f; layout = sym r.1 ∙ same; full = subst (λ x. taking_all x.taken x.address x.sizes ≡ None) same full }
 
 -- the words are worked out for the lines as they stand
 pub laid-placed : (lines : List Line) (s : Layout) → has_end lines ≡ true → laid_out empty_layout 1 lines ≡ Ok s
-    → lines_with s.labels s.places (places_of_literals s) lines ≡ lines_placed (map_of lines) lines
+    → lines_with s.labels s.addresses (addresses_of_literals s) lines ≡ lines_placed (map_of lines) lines
 laid-placed lines s h l =
-    ap (λ x. lines_with x.labels x.places (places_of_literals x) lines) (laid-layout lines s h l).layout
+    ap (λ x. lines_with x.labels x.addresses (addresses_of_literals x) lines) (laid-layout lines s h l).layout
     ∙ layout-placed lines
 
 -- the words that are given to lines that stand are those of an image
 given-image : (source : List ℕ) (lines : List Line) (image : Assembled) (ws : List (ℕ × ℕ)) → program_of source ≡ Ok lines
-    → has_end lines ≡ true → Fits [] first_place [] lines
-    → taking_all (layout_of lines).taken (layout_of lines).place (layout_of lines).sizes ≡ None
+    → has_end lines ≡ true → Fits [] first_address [] lines
+    → taking_all (layout_of lines).taken (layout_of lines).address (layout_of lines).sizes ≡ None
     → words_given 1 (lines_placed (map_of lines) lines) ≡ Ok ws
-    → image.words ≡ by_place (reverse ws)
-    → image.start ≡ unwrap_or (start_at (lines_placed (map_of lines) lines)) first_place
+    → image.words ≡ by_address (reverse ws)
+    → image.start ≡ unwrap_or (start_at (lines_placed (map_of lines) lines)) first_address
     → IsAssembly source image
 unfolding words_at are_apart
 given-image source lines image ws reads h f full given words_are start_is =
     let m = map_of lines in
-    let w : Whole m [] [] (literal_places m lines) lines (lines_at m lines) =
-    fits-whole lines [] first_place [] (literal_places m lines) f refl refl refl in
-    let own = flat_map (places_of m) (lines_at m lines) in
+    let w : Whole m [] [] (literal_addresses m lines) lines (lines_at m lines) =
+    fits-whole lines [] first_address [] (literal_addresses m lines) f refl refl refl in
+    let own = flat_map (addresses_of m) (lines_at m lines) in
     let zs = literal_sizes m (lines_at m lines) in
-    let t = all-taken zs own (place_after m first_place lines) full w.words_once in
+    let t = all-taken zs own (address_after m first_address lines) full w.words_once in
     let at = lines_placed m lines in
     let gather = words-gather at 1 ws given in
     let g : Gathers at ws = gather.0 in
     let words = g.own ++ g.literals in
     let gives : words_at at ≡ Some words =
     bind_at (all_statement_words at) _ g.own g.gives_own ∙ bind_at (all_literal_words at) _ g.literals g.gives_literals in
-    let keys : keys_of words ≡ places_taken m lines = takes_its_places m lines words w.settled gives in
+    let keys : keys_of words ≡ addresses_taken m lines = takes_its_addresses m lines words w.settled gives in
     let once : are_apart (keys_of words) ≡ true = ap are_apart keys ∙ t.0 in
-    let ends : has_end (map line_at at) ≡ true = ap has_end (placed-lines lines m first_place (literal_places m lines)) ∙ h in
+    let ends : has_end (map line_at at) ≡ true = ap has_end (placed-lines lines m first_address (literal_addresses m lines)) ∙ h in
     let s = known-some (start_at at) (all-start at ends gather.1) in
-    let start : image.start ≡ s.0 = start_is ∙ ap (λ x. unwrap_or x first_place) s.1 in
+    let start : image.start ≡ s.0 = start_is ∙ ap (λ x. unwrap_or x first_address) s.1 in
     let order : IsPermutation (reverse ws) words =
     IsPermutation-trans (reverse ws) ws words (IsPermutation-sym ws (reverse ws) (IsPermutation-reverse ws)) g.same in
     record {
@@ -212,9 +212,9 @@ given-image source lines image ws reads h f full given words_are start_is =
       allowed = w.allowed;
       gives = gives;
       labels_below = w.low;
-      words_below = ap are_below keys ∙ all-append own (ranges_from (place_after m first_place lines) zs) ∙ and_from _ _ w.words_low t.1;
+      words_below = ap are_below keys ∙ all-append own (ranges_from (address_after m first_address lines) zs) ∙ and_from _ _ w.words_low t.1;
       words_apart = once;
-      words_are = words_are ∙ sym (by_place-permuted words (reverse ws) once (IsPermutation-sym (reverse ws) words order));
+      words_are = words_are ∙ sym (by_address-permuted words (reverse ws) once (IsPermutation-sym (reverse ws) words order));
       start_is = s.1 ∙ ap Some (sym start);
     }
 
@@ -228,7 +228,7 @@ told-image source image h =
     let l : LaidOut lines o.0 = laid-layout lines o.0 r.2 o.1 in
     let at = lines_placed (map_of lines) lines in
     let told : outcome_placed at ≡ Ok image = subst (λ x. outcome_placed x ≡ Ok image) (laid-placed lines o.0 r.2 o.1) o.2 in
-    let i = with-ok (unwrap_or (start_at at) first_place) (words_given 1 at) image told in
+    let i = with-ok (unwrap_or (start_at at) first_address) (words_given 1 at) image told in
     given-image source lines image i.0 r.1 r.2 l.fits l.full i.1 i.2 i.3
 
 -- what an image holds under the labels that are met
@@ -255,32 +255,32 @@ image-told source image h =
     let k : Held m lines words image.start = subst (λ l. Held l lines words image.start) same
     (record { once = h.once; literals = h.literals; allowed = h.allowed; gives = h.gives; low = h.labels_below; start_is = h.start_is }) in
     let at = lines_placed m lines in
-    let own = flat_map (places_of m) (lines_at m lines) in
+    let own = flat_map (addresses_of m) (lines_at m lines) in
     let zs = literal_sizes m (lines_at m lines) in
-    let place = place_after m first_place lines in
-    let keys : keys_of words ≡ places_taken m lines = takes_its_places m lines words h.settled k.gives in
-    let once : are_apart (own ++ ranges_from place zs) ≡ true = ap are_apart (sym keys) ∙ h.words_apart in
-    let low = and_parts (are_below own) (are_below (ranges_from place zs))
-    (sym (all-append own (ranges_from place zs)) ∙ ap are_below (sym keys) ∙ h.words_below) in
+    let address = address_after m first_address lines in
+    let keys : keys_of words ≡ addresses_taken m lines = takes_its_addresses m lines words h.settled k.gives in
+    let once : are_apart (own ++ ranges_from address zs) ≡ true = ap are_apart (sym keys) ∙ h.words_apart in
+    let low = and_parts (are_below own) (are_below (ranges_from address zs))
+    (sym (all-append own (ranges_from address zs)) ∙ ap are_below (sym keys) ∙ h.words_below) in
     let o = bind_some (all_statement_words at) _ words k.gives in
     let l = bind_some (all_literal_words at) _ words o.2 in
-    let w : Whole m [] [] (literal_places m lines) lines (lines_at m lines) = record {
+    let w : Whole m [] [] (literal_addresses m lines) lines (lines_at m lines) = record {
       settled = h.settled;
       once = k.once;
       low = k.low;
       sized = k.literals;
       allowed = k.allowed;
-      words_once = (apart-parts own (ranges_from place zs) once).0;
+      words_once = (apart-parts own (ranges_from address zs) once).0;
       words_low = low.0;
     } in
-    let f : Fits [] first_place [] lines = whole-fits lines [] first_place [] (literal_places m lines) o.0 w o.1 in
-    let lines_are : map line_at at ≡ lines = placed-lines lines m first_place (literal_places m lines) in
+    let f : Fits [] first_address [] lines = whole-fits lines [] first_address [] (literal_addresses m lines) o.0 w o.1 in
+    let lines_are : map line_at at ≡ lines = placed-lines lines m first_address (literal_addresses m lines) in
     let ends : has_end lines ≡ true = ap has_end (sym lines_are) ∙ start-last at image.start k.start_is in
     let last : ends_once lines ≡ true = end-is-last source lines h.reads ends in
-    let fin : final empty_layout lines ≡ layout_of lines = final-is lines [] first_place [] [] [] f in
-    let full : taking_all own place (map Ok zs) ≡ None = taken-all zs own place once low.1 in
+    let fin : final empty_layout lines ≡ layout_of lines = final-is lines [] first_address [] [] [] f in
+    let full : taking_all own address (map Ok zs) ≡ None = taken-all zs own address once low.1 in
     let right : AllRight empty_layout lines =
-    fits-right lines [] first_place [] [] [] f last (subst (λ s. taking_all s.taken s.place s.sizes ≡ None) (sym fin) full) in
+    fits-right lines [] first_address [] [] [] f last (subst (λ s. taking_all s.taken s.address s.sizes ≡ None) (sym fin) full) in
     let g = gather-words at 1 o.0 l.0 o.1 l.1 (start-all at image.start (ap ends_once lines_are ∙ last) k.start_is) in
     let all : o.0 ++ l.0 ≡ words = some_parts (o.0 ++ l.0) words l.2 in
     let order : IsPermutation words (reverse g.0) =
@@ -290,7 +290,7 @@ image-told source image h =
     ∙ if-same (has_end lines) (outcome_from lines (laid_out empty_layout 1 lines)) (record { line = length lines; code = NoEnd }) ends
     ∙ ap (outcome_from lines) (right-laid lines empty_layout 1 right ∙ ap Ok fin)
     ∙ ap outcome_placed (layout-placed lines)
-    ∙ ap (λ s. image_with (unwrap_or s first_place) (words_given 1 at)) k.start_is
+    ∙ ap (λ s. image_with (unwrap_or s first_address) (words_given 1 at)) k.start_is
     ∙ ap (image_with image.start) g.1
     ∙ ap (λ x. let i : Assembled = record { words = x; start = image.start } in Ok i)
-    (sym (by_place-permuted words (reverse g.0) h.words_apart order) ∙ sym h.words_are)
+    (sym (by_address-permuted words (reverse g.0) h.words_apart order) ∙ sym h.words_are)

@@ -1,4 +1,4 @@
--- Lines can stand one behind the other exactly where all that is asked of an image's places holds of them at once.
+-- Lines can stand one behind the other exactly where all that is asked of an image's addresses holds of them at once.
 use Rattle.std.proofs.Common.{◌≡◌, ◌∙◌, sym, ap, subst, ℕ, true, ◌&&◌, List, [], ◌∷◌, ◌++◌, map, length, take, drop}
 use Rattle.std.proofs.Common.{flat_map, is_some, Option, Some, None, option_map, refl, append_assoc}
 use Rattle.std.specs.Prelude.{nat_lt, replicate}
@@ -13,11 +13,11 @@ use Rattle.mac_text.specs.declared.syntax.Data.TheVariants as data_of
 use Rattle.mac_text.specs.declared.syntax.Statement.{Statement}
 use Rattle.mac_text.specs.declared.syntax.Statement.TheVariants as statements
 use Rattle.mac_text.specs.declared.syntax.Line.{Line}
-use Rattle.mac_layout.specs.Places.{Labels, names_at, count_of, size_of, place_behind, Located, located, literal_sizes, placed}
-use Rattle.mac_layout.specs.Places.{are_among, is_count_settled, is_settled, are_settled, are_apart}
+use Rattle.mac_layout.specs.Addresses.{Labels, names_at, count_of, size_of, address_behind, Located, located, literal_sizes, placed}
+use Rattle.mac_layout.specs.Addresses.{are_among, is_count_settled, is_settled, are_settled, are_apart}
 use Rattle.mac_asm.specs.Assembly.{all_words_of, words_from, statement_words, all_statement_words, allows, are_allowed, have_words, are_below}
-use Rattle.asm_laws.specs.Found.{labels_met}
-use Rattle.asm_laws.specs.Laws.{places_of}
+use Rattle.asm_laws.specs.Found.{labels_from_above}
+use Rattle.asm_laws.specs.Laws.{addresses_of}
 use Rattle.asm_laws.proofs.Options.{bind_some}
 use Rattle.asm_laws.proofs.Unique.{own, labels_in, Settled, settled_parts}
 use Rattle.asm_laws.proofs.Maps.{count-settled}
@@ -28,15 +28,15 @@ use Rattle.asm_laws.proofs.Counts.{data_counts, counts}
 use Rattle.asm_laws.proofs.Fits.{range_of}
 use Rattle.asm_laws.proofs.Layouts.{Fits, fits-settled, fits-kept, Kept, kept}
 
--- all that is asked of lines and their places under a map, behind labels and places above them
+-- all that is asked of lines and their addresses under a map, behind labels and addresses above them
 pub record Whole (m xs : Labels) (t lits : List ℕ) (lines : List Line) (ats : List Located) : Type 0 where
   pub settled : are_settled (keys_of xs) lines ≡ true
   pub once : are_apart (keys_of m) ≡ true
   pub low : are_below (values_of m) ≡ true
   pub sized : have_words (literal_sizes m ats) ≡ true
   pub allowed : are_allowed (placed m ats lits) ≡ true
-  pub words_once : are_apart (t ++ flat_map (places_of m) ats) ≡ true
-  pub words_low : are_below (flat_map (places_of m) ats) ≡ true
+  pub words_once : are_apart (t ++ flat_map (addresses_of m) ats) ≡ true
+  pub words_low : are_below (flat_map (addresses_of m) ats) ≡ true
 
 -- the count of LOC and BLOCK is the same under all labels
 count-same : (m xs ys : Labels) (p : ℕ) (l : List ℕ) (e : List SignedTerm) → m ≡ xs ++ ys → are_among (keys_of xs) e ≡ true
@@ -100,8 +100,8 @@ words-append xs ys = list_all-append (λ n. nat_lt 0 n) xs ys
 
 pub fits-whole : (lines : List Line) (xs : Labels) (p : ℕ) (t lits : List ℕ) → Fits xs p t lines
     → are_apart (keys_of xs) ≡ true → are_below (values_of xs) ≡ true → are_apart t ≡ true
-    → Whole (labels_met xs p lines) xs t lits lines (located (labels_met xs p lines) p lines)
-unfolding labels_met located placed are_settled
+    → Whole (labels_from_above xs p lines) xs t lits lines (located (labels_from_above xs p lines) p lines)
+unfolding labels_from_above located placed are_settled
 fits-whole [] xs p t lits f o b a = record {
   settled = refl;
   once = o;
@@ -113,15 +113,15 @@ fits-whole [] xs p t lits f o b a = record {
 }
 fits-whole (line ∷ lines) xs p t lits f o b a =
     let xs' = xs ++ own p line in
-    let p' = place_behind xs' p line.statement in
-    let m = labels_met xs' p' lines in
+    let p' = address_behind xs' p line.statement in
+    let m = labels_from_above xs' p' lines in
     let t' = t ++ range_of xs' p line.statement in
     let n = length line.literals in
     let k : Kept m xs' p line = fits-kept line lines xs p t f in
     let e : m ≡ xs' ++ labels_in m p' lines = met lines p' xs' (fits-settled lines xs' p' t' f.1) in
     let rest = located m p' lines in
     let w : Whole m xs' t' (drop n lits) lines rest = fits-whole lines xs' p' t' (drop n lits) f.1 f.0.once f.0.low f.0.statement.once in
-    subst (λ q. Whole m xs t lits (line ∷ lines) (record { place = p; line = line } ∷ located m q lines)) (sym k.place)
+    subst (λ q. Whole m xs t lits (line ∷ lines) (record { address = p; line = line } ∷ located m q lines)) (sym k.address)
     (record {
       settled = fits-settled (line ∷ lines) xs p t f;
       once = w.once;
@@ -132,30 +132,30 @@ fits-whole (line ∷ lines) xs p t lits f o b a =
           and_from _ _
           (counted-allows m xs' (labels_in m p' lines) p (take n lits) line.statement e f.0.statement.settled
           f.0.statement.counted) w.allowed;
-      words_once = ap (λ s. are_apart (t ++ (range_with_len p s ++ flat_map (places_of m) rest))) k.size
-          ∙ ap are_apart (sym (append_assoc t (range_of xs' p line.statement) (flat_map (places_of m) rest))) ∙ w.words_once;
-      words_low = all-append (range_of m p line.statement) (flat_map (places_of m) rest)
+      words_once = ap (λ s. are_apart (t ++ (range_with_len p s ++ flat_map (addresses_of m) rest))) k.size
+          ∙ ap are_apart (sym (append_assoc t (range_of xs' p line.statement) (flat_map (addresses_of m) rest))) ∙ w.words_once;
+      words_low = all-append (range_of m p line.statement) (flat_map (addresses_of m) rest)
           ∙ and_from _ _ (ap (λ s. are_below (range_with_len p s)) k.size ∙ f.0.statement.low) w.words_low;
     })
 
 pub whole-fits : (lines : List Line) (xs : Labels) (p : ℕ) (t lits : List ℕ) (words : List (ℕ × ℕ))
-    → Whole (labels_met xs p lines) xs t lits lines (located (labels_met xs p lines) p lines)
-    → all_statement_words (placed (labels_met xs p lines) (located (labels_met xs p lines) p lines) lits) ≡ Some words
+    → Whole (labels_from_above xs p lines) xs t lits lines (located (labels_from_above xs p lines) p lines)
+    → all_statement_words (placed (labels_from_above xs p lines) (located (labels_from_above xs p lines) p lines) lits) ≡ Some words
     → Fits xs p t lines
-unfolding labels_met located placed all_statement_words
+unfolding labels_from_above located placed all_statement_words
 whole-fits [] xs p t lits words w g = tt
 whole-fits (line ∷ lines) xs p t lits words w g =
     let xs' = xs ++ own p line in
-    let p' = place_behind xs' p line.statement in
-    let m = labels_met xs' p' lines in
+    let p' = address_behind xs' p line.statement in
+    let m = labels_from_above xs' p' lines in
     let n = length line.literals in
     let s : Settled xs p line lines = settled_parts xs p line lines w.settled in
     let ys = labels_in m p' lines in
     let e : m ≡ xs' ++ ys = met lines p' xs' s.later in
     let k : Kept m xs' p line = kept m xs' ys p line e s.statement s.literals in
     let rest = located m p' lines in
-    let v = subst (λ q. Whole m xs t lits (line ∷ lines) (record { place = p; line = line } ∷ located m q lines)) k.place w in
-    let h = subst (λ q. all_statement_words (placed m (record { place = p; line = line } ∷ located m q lines) lits) ≡ Some words) k.place g in
+    let v = subst (λ q. Whole m xs t lits (line ∷ lines) (record { address = p; line = line } ∷ located m q lines)) k.address w in
+    let h = subst (λ q. all_statement_words (placed m (record { address = p; line = line } ∷ located m q lines) lits) ≡ Some words) k.address g in
     let f = bind_some (statement_words (names_at m p (take n lits)) line.statement) _ words h in
     let l = bind_some (all_statement_words (placed m rest (drop n lits))) _ words f.2 in
     let keys : are_apart (keys_of xs' ++ keys_of ys) ≡ true =
@@ -166,10 +166,10 @@ whole-fits (line ∷ lines) xs p t lits words w g =
     (sym (words-append (map (size_of m p) line.literals) (literal_sizes m rest)) ∙ v.sized) in
     let allowed = and_parts (allows (names_at m p (take n lits)) line.statement) _ v.allowed in
     let low = and_parts (are_below (range_of m p line.statement)) _
-    (sym (all-append (range_of m p line.statement) (flat_map (places_of m) rest)) ∙ v.words_low) in
-    let once : are_apart ((t ++ range_of xs' p line.statement) ++ flat_map (places_of m) rest) ≡ true =
-    ap are_apart (append_assoc t (range_of xs' p line.statement) (flat_map (places_of m) rest))
-    ∙ ap (λ z. are_apart (t ++ (range_with_len p z ++ flat_map (places_of m) rest))) (sym k.size) ∙ v.words_once in (
+    (sym (all-append (range_of m p line.statement) (flat_map (addresses_of m) rest)) ∙ v.words_low) in
+    let once : are_apart ((t ++ range_of xs' p line.statement) ++ flat_map (addresses_of m) rest) ≡ true =
+    ap are_apart (append_assoc t (range_of xs' p line.statement) (flat_map (addresses_of m) rest))
+    ∙ ap (λ z. are_apart (t ++ (range_with_len p z ++ flat_map (addresses_of m) rest))) (sym k.size) ∙ v.words_once in (
       record {
         once = (apart-parts (keys_of xs') (keys_of ys) keys).0;
         low = (and_parts (are_below (values_of xs')) _ (sym (all-append (values_of xs') (values_of ys)) ∙ values)).0;
@@ -178,7 +178,7 @@ whole-fits (line ∷ lines) xs p t lits words w g =
         statement = record {
           settled = s.statement;
           counted = statement-counted m xs' ys p (take n lits) line.statement f.0 e s.statement allowed.0 f.1;
-          once = (apart-parts (t ++ range_of xs' p line.statement) (flat_map (places_of m) rest) once).0;
+          once = (apart-parts (t ++ range_of xs' p line.statement) (flat_map (addresses_of m) rest) once).0;
           low = ap (λ z. are_below (range_with_len p z)) (sym k.size) ∙ low.0;
         };
       },

@@ -2,7 +2,7 @@
 -- its halves in octal.
 use Rattle.std.specs.Prelude.{ℕ, List, [], ◌∷◌, ◌++◌, codes}
 use Rattle.word36.specs.Words.{joined}
-use Rattle.mac_asm.specs.Assembly.{Assembled, by_place}
+use Rattle.mac_asm.specs.Assembly.{Assembled, by_address}
 
 abbrev pub example_line : List ℕ → List ℕ
 example_line text = text ++ 10 ∷ []
@@ -23,4 +23,4 @@ example_words =
     ∷ (0o203, joined 0 5) ∷ []
 
 abbrev pub example_image : Assembled
-example_image = record { words = by_place example_words; start = 0o200 }
+example_image = record { words = by_address example_words; start = 0o200 }

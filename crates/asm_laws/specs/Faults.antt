@@ -1,28 +1,30 @@
 -- Laws on faults (this project's profile).
-use Rattle.std.specs.Prelude.{◌≡◌, ◌↔◌, ◌⊎◌, ℕ, ◌+◌, ◌<◌, ◌≤◌, Bool, ◌&&◌, true, false, is_some, List, [], ◌∷◌, ◌++◌, length, Some, Ok, Err, is_ok}
+use Rattle.std.specs.Prelude.{◌≡◌, ◌↔◌, ◌⊎◌, ℕ, ◌+◌, ◌<◌, ◌≤◌, Bool, ◌&&◌, true}
+use Rattle.std.specs.Prelude.{false, is_some, List, [], ◌∷◌, ◌++◌, length, Some, Ok, Err, is_ok}
 use Rattle.std.specs.List.{list_all}
 use Rattle.std.specs.Map.{keys_of, values_of}
 use Rattle.std.specs.Str.Lines.{lines}
 use Rattle.mac_text.specs.Lines.{program_of}
 use Rattle.mac_text.specs.declared.syntax.Line.{Line}
 use Rattle.mac_layout.specs.declared.error.AsmCode.{AsmCode}
-use Rattle.mac_layout.specs.declared.error.AsmCode.TheVariants.{DefinedTwice, DoesNotFit, NoEnd, NotYetDefined, PlaceTooHigh, Syntax, UnknownName}
-use Rattle.mac_layout.specs.Places.{Labels, are_settled, literal_sizes, Placed, are_apart}
+use Rattle.mac_layout.specs.declared.error.AsmCode.TheVariants.{DefinedTwice, DoesNotFit, NoEnd, NotYetDefined}
+use Rattle.mac_layout.specs.declared.error.AsmCode.TheVariants.{AddressTooHigh, Syntax, UnknownName}
+use Rattle.mac_layout.specs.Addresses.{Labels, are_settled, literal_sizes, Placed, are_apart}
 use Rattle.mac_asm.specs.Assembly.{Assembled, IsAssembly, lines_at, lines_placed, words_at, have_words, are_allowed, are_below, start_at}
 use Rattle.asm_laws.specs.Found.{map_of}
 use Rattle.mac_layout.specs.Faults.{Fault}
 use Rattle.mac_layout.specs.LaidOut.{Layout, empty_layout, laid_out, line_code}
 use Rattle.mac_asm.specs.Outcome.{has_end, is_line_known, outcome_of, value_code, words_given}
-use Rattle.asm_laws.specs.Laws.{places_taken}
+use Rattle.asm_laws.specs.Laws.{addresses_taken}
 
--- a fault is told only of a source without an image, and names a line of it, counted from 1; of a source of no lines, 0
+-- a fault is reported only of a source without an image, and names a line of it, counted from 1, or 0 if it has no lines
 pub record TellsFault (source : List ℕ) (fault : Fault) : Type 0 where
   pub no_image : (image : Assembled) → IsAssembly source image → ⊥
   pub within : fault.line ≤ length (lines source)
   pub counted : 0 < length (lines source) → 0 < fault.line
 
--- the first line out of the grammar is told as such, and a source whose last line is not END at the number of its lines;
--- and these codes mean nothing else
+-- Syntax is reported exactly of the first line that is not in the grammar, and NoEnd exactly of a source whose last line is
+-- not END, at the number of its lines
 pub record TellsReading (source : List ℕ) (line : ℕ) : Type 0 where
   pub syntax_at : (outcome_of source ≡ Err (record { line = line; code = Syntax })) ↔ (program_of source ≡ Err line)
   pub no_end :
@@ -36,18 +38,17 @@ all_fit labels read =
     && (are_allowed (lines_placed labels read)
     && (is_some (words_at (lines_placed labels read)) && is_some (start_at (lines_placed labels read))))
 
--- what a code says of the lines that were read, with the labels as they are met. Where LOC and BLOCK do not speak of
--- earlier labels alone, the map does not say where lines stand, and nothing is said here of DefinedTwice, PlaceTooHigh
--- and DoesNotFit
+-- what a code says of the lines, under the map of their labels. If LOC and BLOCK have other than earlier labels, the map does
+-- not say where lines stand, and nothing is said here of DefinedTwice, AddressTooHigh and DoesNotFit
 pub record TellsCode (read : List Line) (code : AsmCode) : Type 0 where
-  -- LOC or BLOCK speaks of a label that does not stand earlier, or of a literal
+  -- LOC or BLOCK has a label that does not stand earlier, or a literal
   pub not_yet : code ≡ NotYetDefined → are_settled [] read ≡ false
-  -- a label stands twice, or a place has two words
+  -- a label stands twice, or an address has two words
   pub twice : code ≡ DefinedTwice → are_settled [] read ≡ true
-      → (are_apart (keys_of (map_of read)) && are_apart (places_taken (map_of read) read)) ≡ false
+      → (are_apart (keys_of (map_of read)) && are_apart (addresses_taken (map_of read) read)) ≡ false
   -- a label or a word stands at 2 ^ 18 or above
-  pub high : code ≡ PlaceTooHigh → are_settled [] read ≡ true
-      → (are_below (values_of (map_of read)) && are_below (places_taken (map_of read) read)) ≡ false
+  pub high : code ≡ AddressTooHigh → are_settled [] read ≡ true
+      → (are_below (values_of (map_of read)) && are_below (addresses_taken (map_of read) read)) ≡ false
   -- a value does not fit
   pub unfit : code ≡ DoesNotFit → are_settled [] read ≡ true → all_fit (map_of read) read ≡ false
   -- a name is not defined
@@ -75,7 +76,7 @@ pub record FirstGiven (lines : List Placed) (fault : Fault) : Type 0 where
   pub without : words_given 1 above ≡ Ok words
   pub told : value_code line ≡ Some fault.code
 
--- the first line that cannot be laid out is told; where there is none, the first whose values are not known or do not fit
+-- the first line that cannot be laid out is reported; if there is none, the first whose values are not known or do not fit
 abbrev pub TellsFirst : List Line → Fault → Type 0
 TellsFirst read fault =
     FirstLaid read fault

@@ -10,11 +10,11 @@ use Rattle.script_io.specs.declared.endings.Ending.{Ending}
 use Rattle.script_io.specs.declared.endings.Ending.TheVariants.{Done, Source}
 use Rattle.script_io.specs.declared.endings.SourceFault.{SourceFault}
 
--- `AAAAAA LLLLLL,,RRRRRR`, a place and its word
+-- `AAAAAA LLLLLL,,RRRRRR`, an address and its word
 abbrev pub word_line : ℕ × ℕ → List ℕ
 word_line at = octal 6 at.0 ++ codes " " ++ word_text at.1 ++ codes "\n"
 
--- the words by rising place, and `START AAAAAA`
+-- the words by rising address, and `START AAAAAA`
 abbrev pub image_text : Assembled → List ℕ
 image_text image = flat_map word_line image.words ++ codes "START " ++ octal 6 image.start ++ codes "\n"
 

@@ -36,9 +36,9 @@ impl TextService for Assembler {
     }
 }
 
-/// Serves a source in the assembler's language: reads all of it, and writes its words with their
-/// places in octal, a line each by rising place, and then where it starts. Where it has no image,
-/// `?ASM line code` is written, and the answer is Source (this project's profile).
+/// Serves a source in the assembler's language: reads all of it, and writes its words with their addresses in octal, a line
+/// each by rising address, and then its start. For a source without an image it writes `?ASM line code`, and the answer is
+/// Source (this project's profile).
 pub fn serve_asm<R: ByteIn, W: ByteOut>(
     alloc: Global,
     reader: &mut R,
@@ -47,7 +47,8 @@ pub fn serve_asm<R: ByteIn, W: ByteOut>(
     requires reader_sound { R.has_failed reader.old ≡ false }
     requires writer_sound { W.has_failed writer.old ≡ false }
     requires few { R.reads_left reader.old ≤ 2 ^ 63 }
-    ensures serves { Serves listing (R.to_come reader.old) (R.to_come reader.new) (W.written writer.old) (W.written writer.new) (served_as result) }
+    ensures serves { Serves listing (R.to_come reader.old) (R.to_come reader.new)
+        (W.written writer.old) (W.written writer.new) (served_as result) }
     ensures blames { IfErr (served_as result) (λ e. Blames e (R.has_failed reader.new) (W.has_failed writer.new)) }
 {
     let mut session = TextSession::new(alloc, Assembler { alloc });

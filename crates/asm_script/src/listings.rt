@@ -1,4 +1,4 @@
-//! The listing of a source: its words by rising place and its start, or what is wrong with it.
+//! The listing of a source: its words by rising address and its start, or what is wrong with it.
 ghost use Rattle.std.specs.Prelude.{◌≡◌, ◌++◌, ◌<◌, ◌^◌, OnOk, ◌∷◌, []};
 ghost use Rattle.std.specs.List.{flat_map, list_all};
 ghost use Rattle.asm_script.specs.Listings.{word_line, image_text, fault_text, fault_behind};
@@ -9,19 +9,19 @@ use script_io::{Ending, SourceFault, push_decimal, push_word};
 use std::alloc::AllocError;
 use word36::{Image, Word, octal_digits};
 
-/// Adds a line of a place and its word.
+/// Adds a line of an address and its word.
 #[tactic(auto, using(std::proofs::Common::append_assoc))]
-fn push_word_line(out: &mut Vec<u8>, place: u32, word: Word) -> Result<(), AllocError>
-    ensures { OnOk result (out.new.items ≡ out.old.items ++ word_line (place, word)) }
+fn push_word_line(out: &mut Vec<u8>, address: u32, word: Word) -> Result<(), AllocError>
+    ensures { OnOk result (out.new.items ≡ out.old.items ++ word_line (address, word)) }
 {
-    out.extend_from_slice(&octal_digits::<6>(u64::from(place)))?;
+    out.extend_from_slice(&octal_digits::<6>(u64::from(address)))?;
     out.push(b' ')?;
     push_word(out, word)?;
     out.push(b'\n')?;
     Ok(())
 }
 
-/// Adds the lines of words with their places.
+/// Adds the lines of words with their addresses.
 fn push_words(out: &mut Vec<u8>, words: &[(u32, Word)]) -> Result<(), AllocError>
     ensures { OnOk result (out.new.items ≡ out.old.items ++ flat_map word_line words.now) }
 {
@@ -34,7 +34,8 @@ fn push_words(out: &mut Vec<u8>, words: &[(u32, Word)]) -> Result<(), AllocError
 /// Adds the lines of an image: its words, and where it starts.
 #[tactic(auto, using(std::proofs::Common::append_assoc))]
 pub fn push_image(out: &mut Vec<u8>, image: &Image) -> Result<(), AllocError>
-    ensures { OnOk result (out.new.items ≡ out.old.items ++ image_text (record { words = image.now.words.items; start = image.now.start })) }
+    ensures { OnOk result (out.new.items
+        ≡ out.old.items ++ image_text (record { words = image.now.words.items; start = image.now.start })) }
 {
     push_words(out, image.words.as_slice())?;
     out.extend_from_slice(b"START ")?;

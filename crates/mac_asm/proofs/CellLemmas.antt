@@ -12,7 +12,7 @@ pub all_none : (first : Cells) → first ≡ [] → all_cells first ≡ empty_ce
 unfolding all_cells
 all_none first none = ap (λ cells. cells ++ empty_cells (2 ^ 18 - length cells)) none
 
--- as many cells as there are places
+-- as many cells as there are addresses
 pub all_length : (first : Cells) → length first ≤ 2 ^ 18 → length (all_cells first) ≡ 2 ^ 18
 unfolding all_cells empty_cells
 all_length first le =
@@ -65,14 +65,14 @@ set_behind first grown at word le lt is =
     ∙ ap (λ cells. (cells ++ Some word ∷ []) ++ none_more (2 ^ 18 - (at + 1))) whole
     ∙ word_behind (2 ^ 18) first at word le lt
 
-none_there : (n place : ℕ) → words_in_cells place (replicate n None) ≡ []
-none_there zero place = refl
-none_there (suc n) place = none_there n (place + 1)
+none_there : (n address : ℕ) → words_in_cells address (replicate n None) ≡ []
+none_there zero address = refl
+none_there (suc n) address = none_there n (address + 1)
 
-words_behind : (first : Cells) (n place : ℕ) → words_in_cells place (first ++ replicate n None) ≡ words_in_cells place first
-words_behind [] n place = none_there n place
-words_behind (None ∷ first) n place = words_behind first n (place + 1)
-words_behind (Some word ∷ first) n place = ap (λ words. (place, word) ∷ words) (words_behind first n (place + 1))
+words_behind : (first : Cells) (n address : ℕ) → words_in_cells address (first ++ replicate n None) ≡ words_in_cells address first
+words_behind [] n address = none_there n address
+words_behind (None ∷ first) n address = words_behind first n (address + 1)
+words_behind (Some word ∷ first) n address = ap (λ words. (address, word) ∷ words) (words_behind first n (address + 1))
 
 -- no words but those of the first cells
 pub words_of_first : (first : Cells) → words_in_cells 0 (all_cells first) ≡ words_in_cells 0 first
@@ -80,24 +80,24 @@ unfolding all_cells empty_cells
 words_of_first first = words_behind first (2 ^ 18 - length first) 0
 
 -- behind the last cell
-pub put_past : (cells : Cells) (place : ℕ) (words : List ℕ) → length cells ≤ place → put_from cells place words ≡ cells
-put_past cells place [] le = refl
-put_past cells place (word ∷ words) le =
-    ap (λ c. put_from c (place + 1) words) (set_past cells place (Some word) le) ∙ put_past cells (place + 1) words (omega arith)
+pub put_past : (cells : Cells) (address : ℕ) (words : List ℕ) → length cells ≤ address → put_from cells address words ≡ cells
+put_past cells address [] le = refl
+put_past cells address (word ∷ words) le =
+    ap (λ c. put_from c (address + 1) words) (set_past cells address (Some word) le) ∙ put_past cells (address + 1) words (omega arith)
 
-pub put_clamped : (cells : Cells) (place len : ℕ) (words : List ℕ) → len ≡ length cells → put_from cells (min place len) words ≡ put_from cells place words
-put_clamped cells place len words is = elim (cases_lt place len) [
+pub put_clamped : (cells : Cells) (address len : ℕ) (words : List ℕ) → len ≡ length cells → put_from cells (min address len) words ≡ put_from cells address words
+put_clamped cells address len words is = elim (cases_lt address len) [
   | inl lt ↦ ap (λ p. put_from cells p words) (omega arith)
-  | inr ge ↦ put_past cells (min place len) words (omega arith) ∙ sym (put_past cells place words (omega arith))
+  | inr ge ↦ put_past cells (min address len) words (omega arith) ∙ sym (put_past cells address words (omega arith))
 ]
 
 -- one more zero
-pub zeros_more : (cells : Cells) (place total at : ℕ) → at < total
-    → put_from cells place (replicate (total - at) 0)
-    ≡ put_from (set cells place (Some 0)) (place + 1) (replicate (total - (at + 1)) 0)
-zeros_more cells place total at lt =
+pub zeros_more : (cells : Cells) (address total at : ℕ) → at < total
+    → put_from cells address (replicate (total - at) 0)
+    ≡ put_from (set cells address (Some 0)) (address + 1) (replicate (total - (at + 1)) 0)
+zeros_more cells address total at lt =
     let k : total - at ≡ suc (total - (at + 1)) = omega arith in
-    ap (λ n. put_from cells place (replicate n 0)) k
+    ap (λ n. put_from cells address (replicate n 0)) k
 
 -- no zero is left that has a cell
 pub zeros_done : (cells : Cells) (first count at len : ℕ) → at ≡ first + min count (len - first) → first ≤ len
@@ -108,8 +108,8 @@ zeros_done cells first count at len end le is = elim (cases_lt count (len - firs
   | inr ge ↦ put_past cells at (replicate (first + count - at) 0) (omega arith)
 ]
 
-pub zeros_begin : (cells : Cells) (place first count len : ℕ) → first ≡ min place len → len ≡ length cells
-    → put_from cells first (replicate (first + count - first) 0) ≡ put_from cells place (replicate count 0)
-zeros_begin cells place first count len is all =
+pub zeros_begin : (cells : Cells) (address first count len : ℕ) → first ≡ min address len → len ≡ length cells
+    → put_from cells first (replicate (first + count - first) 0) ≡ put_from cells address (replicate count 0)
+zeros_begin cells address first count len is all =
     let k : first + count - first ≡ count = omega arith in
-    ap (λ n. put_from cells first (replicate n 0)) k ∙ ap (λ p. put_from cells p (replicate count 0)) is ∙ put_clamped cells place len (replicate count 0) all
+    ap (λ n. put_from cells first (replicate n 0)) k ∙ ap (λ p. put_from cells p (replicate count 0)) is ∙ put_clamped cells address len (replicate count 0) all

@@ -7,30 +7,30 @@ use Rattle.std.proofs.lemmas.List.{drop_more, take_all}
 use Rattle.std.proofs.lemmas.Bool.{cases_lt}
 use Rattle.mac_text.specs.declared.syntax.Line.{Line}
 use Rattle.mac_layout.specs.declared.error.AsmCode.TheVariants.{UnknownName, DoesNotFit}
-use Rattle.mac_layout.specs.Places.{Labels, Placed, names_at, first_place}
+use Rattle.mac_layout.specs.Addresses.{Labels, Placed, names_at, first_address}
 use Rattle.mac_asm.specs.Assembly.{start_by, start_from, start_at}
 use Rattle.mac_layout.specs.Faults.{Fault, unless_fault}
 use Rattle.mac_asm.specs.Outcome.{line_words, has_start, is_line_known, value_code, and_words, words_given, lines_with}
 use Rattle.mac_asm.specs.Filled.{Cells, put_all, PutsLine, filled_with, filled}
-use Rattle.mac_asm.proofs.LineLemmas.{put_more, place_next, place_none}
+use Rattle.mac_asm.proofs.LineLemmas.{put_more, address_next, address_none}
 
 -- the start that the last of these lines names
 abbrev pub ends : ℕ → List Placed → ℕ
 ends start [] = start
-ends start (at ∷ later) = ends (unwrap_or (start_by at.names at.line.statement) first_place) later
+ends start (at ∷ later) = ends (unwrap_or (start_by at.names at.line.statement) first_address) later
 
 -- what is to come of lines where words were put before
 abbrev pub filled_from : Cells → ℕ → ℕ → List Placed → Result (Cells × ℕ) Fault
 filled_from cells start number lines = filled_with cells (ends start lines) (words_given number lines)
 
-ends_is : (start : ℕ) (before : Option Placed) (lines : List Placed) → start ≡ unwrap_or (start_from before) first_place
-    → ends start lines ≡ unwrap_or (start_from (last_or before lines)) first_place
+ends_is : (start : ℕ) (before : Option Placed) (lines : List Placed) → start ≡ unwrap_or (start_from before) first_address
+    → ends start lines ≡ unwrap_or (start_from (last_or before lines)) first_address
 ends_is start before [] is = is
-ends_is start before (at ∷ later) is = ends_is (unwrap_or (start_by at.names at.line.statement) first_place) (Some at) later refl
+ends_is start before (at ∷ later) is = ends_is (unwrap_or (start_by at.names at.line.statement) first_address) (Some at) later refl
 
-pub filled_begins : (cells : Cells) (lines : List Placed) → filled_from cells first_place 1 lines ≡ filled cells lines
+pub filled_begins : (cells : Cells) (lines : List Placed) → filled_from cells first_address 1 lines ≡ filled cells lines
 unfolding start_at
-filled_begins cells lines = ap (λ start. filled_with cells start (words_given 1 lines)) (ends_is first_place None lines refl)
+filled_begins cells lines = ap (λ start. filled_with cells start (words_given 1 lines)) (ends_is first_address None lines refl)
 
 none_given : (number : ℕ) → words_given number [] ≡ Ok []
 unfolding words_given
@@ -74,11 +74,11 @@ pub filled_more : (cells new : Cells) (before start number : ℕ) (at : Placed) 
     → filled_from cells before number (at ∷ later) ≡ filled_from new start (number + 1) later
 filled_more cells new before start number at later puts =
     let words = some_words cells new (line_words at) puts.0 in
-    let begins = starts_there (has_start at.names at.line.statement) (unwrap_or (start_by at.names at.line.statement) first_place) start puts.1 in
+    let begins = starts_there (has_start at.names at.line.statement) (unwrap_or (start_by at.names at.line.statement) first_address) start puts.1 in
     let right : (is_some (line_words at) && has_start at.names at.line.statement) ≡ true =
     ap (λ b. b && has_start at.names at.line.statement) words.0 ∙ begins.0 in
     let rest = words_given (number + 1) later in
-    let then = ends (unwrap_or (start_by at.names at.line.statement) first_place) later in
+    let then = ends (unwrap_or (start_by at.names at.line.statement) first_address) later in
     ap (filled_with cells then)
     (given_more number at later
     ∙ ap (λ code. unless_fault number code (and_words (unwrap_or (line_words at) []) rest)) (code_none at right))
@@ -91,28 +91,28 @@ pub filled_fails : (cells : Cells) (before number : ℕ) (at : Placed) (later : 
     → (is_some (line_words at) && has_start at.names at.line.statement) ≡ false
     → filled_from cells before number (at ∷ later) ≡ Err (record { line = number; code = cond (is_line_known at) DoesNotFit UnknownName })
 filled_fails cells before number at later wrong =
-    let then = ends (unwrap_or (start_by at.names at.line.statement) first_place) later in
+    let then = ends (unwrap_or (start_by at.names at.line.statement) first_address) later in
     ap (filled_with cells then)
     (given_more number at later
     ∙ ap (λ code. unless_fault number code (and_words (unwrap_or (line_words at) []) (words_given (number + 1) later)))
     (code_some at wrong))
 
--- the lines with their places
-with_more : (labels : Labels) (place : ℕ) (places literals : List ℕ) (line : Line) (lines : List Line)
-    → lines_with labels (place ∷ places) literals (line ∷ lines)
-    ≡ record { names = names_at labels place (take (length line.literals) literals); line = line }
-    ∷ lines_with labels places (drop (length line.literals) literals) lines
+-- the lines with their addresses
+with_more : (labels : Labels) (address : ℕ) (addresses literals : List ℕ) (line : Line) (lines : List Line)
+    → lines_with labels (address ∷ addresses) literals (line ∷ lines)
+    ≡ record { names = names_at labels address (take (length line.literals) literals); line = line }
+    ∷ lines_with labels addresses (drop (length line.literals) literals) lines
 unfolding lines_with
-with_more labels place places literals line lines = refl
+with_more labels address addresses literals line lines = refl
 
-with_no_places : (labels : Labels) (literals : List ℕ) (lines : List Line) → lines_with labels [] literals lines ≡ []
+with_no_addresses : (labels : Labels) (literals : List ℕ) (lines : List Line) → lines_with labels [] literals lines ≡ []
 unfolding lines_with
-with_no_places labels literals lines = refl
+with_no_addresses labels literals lines = refl
 
-with_no_lines : (labels : Labels) (places literals : List ℕ) → lines_with labels places literals [] ≡ []
+with_no_lines : (labels : Labels) (addresses literals : List ℕ) → lines_with labels addresses literals [] ≡ []
 unfolding lines_with
 with_no_lines labels [] literals = refl
-with_no_lines labels (place ∷ places) literals = refl
+with_no_lines labels (address ∷ addresses) literals = refl
 
 take_least : (n : ℕ) (xs : List ℕ) → take (min (length xs) n) xs ≡ take n xs
 take_least n xs = elim (cases_lt (length xs) n) [
@@ -129,32 +129,32 @@ drop_least n xs = elim (cases_lt (length xs) n) [
 ]
 
 -- the line at i with its share of the literals, and those behind it
-pub lines_next : (labels : Labels) (places literals : List ℕ) (lines : List Line) (i place split : ℕ) (line : Line) (own rest : List ℕ)
-    → i < length lines → line ≡ get_or lines i line → slice_get places i ≡ Some place
+pub lines_next : (labels : Labels) (addresses literals : List ℕ) (lines : List Line) (i address split : ℕ) (line : Line) (own rest : List ℕ)
+    → i < length lines → line ≡ get_or lines i line → slice_get addresses i ≡ Some address
     → split ≡ min (length literals) (length line.literals) → own ≡ take split literals
     → rest ≡ drop split literals
-    → lines_with labels (drop i places) literals (drop i lines)
-    ≡ record { names = names_at labels place own; line = line }
-    ∷ lines_with labels (drop (i + 1) places) rest (drop (i + 1) lines)
-lines_next labels places literals lines i place split line own rest lt is at mid first last =
+    → lines_with labels (drop i addresses) literals (drop i lines)
+    ≡ record { names = names_at labels address own; line = line }
+    ∷ lines_with labels (drop (i + 1) addresses) rest (drop (i + 1) lines)
+lines_next labels addresses literals lines i address split line own rest lt is at mid first last =
     let own_is : take (length line.literals) literals ≡ own = sym (first ∙ ap (λ m. take m literals) mid ∙ take_least (length line.literals) literals) in
     let rest_is : drop (length line.literals) literals ≡ rest = sym (last ∙ ap (λ m. drop m literals) mid ∙ drop_least (length line.literals) literals) in
-    ap (λ ps. lines_with labels ps literals (drop i lines)) (place_next places i place at)
-    ∙ ap (λ ls. lines_with labels (place ∷ drop (i + 1) places) literals ls) (drop_more lines i line lt ∙ ap (λ l. l ∷ drop (i + 1) lines) (sym is))
-    ∙ with_more labels place (drop (i + 1) places) literals line (drop (i + 1) lines)
+    ap (λ ps. lines_with labels ps literals (drop i lines)) (address_next addresses i address at)
+    ∙ ap (λ ls. lines_with labels (address ∷ drop (i + 1) addresses) literals ls) (drop_more lines i line lt ∙ ap (λ l. l ∷ drop (i + 1) lines) (sym is))
+    ∙ with_more labels address (drop (i + 1) addresses) literals line (drop (i + 1) lines)
     ∙ ap
-    (λ o. record { names = names_at labels place o; line = line }
-    ∷ lines_with labels (drop (i + 1) places) (drop (length line.literals) literals) (drop (i + 1) lines)) own_is
-    ∙ ap (λ r. record { names = names_at labels place own; line = line } ∷ lines_with labels (drop (i + 1) places) r (drop (i + 1) lines)) rest_is
+    (λ o. record { names = names_at labels address o; line = line }
+    ∷ lines_with labels (drop (i + 1) addresses) (drop (length line.literals) literals) (drop (i + 1) lines)) own_is
+    ∙ ap (λ r. record { names = names_at labels address own; line = line } ∷ lines_with labels (drop (i + 1) addresses) r (drop (i + 1) lines)) rest_is
 
-pub lines_done : (labels : Labels) (places literals : List ℕ) (lines : List Line) (i : ℕ) → length lines ≤ i
-    → lines_with labels (drop i places) literals (drop i lines) ≡ []
-lines_done labels places literals lines i done =
-    ap (λ ls. lines_with labels (drop i places) literals ls) (drop_of_length-le lines done)
-    ∙ with_no_lines labels (drop i places) literals
+pub lines_done : (labels : Labels) (addresses literals : List ℕ) (lines : List Line) (i : ℕ) → length lines ≤ i
+    → lines_with labels (drop i addresses) literals (drop i lines) ≡ []
+lines_done labels addresses literals lines i done =
+    ap (λ ls. lines_with labels (drop i addresses) literals ls) (drop_of_length-le lines done)
+    ∙ with_no_lines labels (drop i addresses) literals
 
-pub places_done : (labels : Labels) (places literals : List ℕ) (lines : List Line) (i : ℕ) → slice_get places i ≡ None
-    → lines_with labels (drop i places) literals (drop i lines) ≡ []
-places_done labels places literals lines i none =
-    ap (λ ps. lines_with labels ps literals (drop i lines)) (place_none places i none)
-    ∙ with_no_places labels literals (drop i lines)
+pub addresses_done : (labels : Labels) (addresses literals : List ℕ) (lines : List Line) (i : ℕ) → slice_get addresses i ≡ None
+    → lines_with labels (drop i addresses) literals (drop i lines) ≡ []
+addresses_done labels addresses literals lines i none =
+    ap (λ ps. lines_with labels ps literals (drop i lines)) (address_none addresses i none)
+    ∙ with_no_addresses labels literals (drop i lines)

@@ -9,15 +9,15 @@ use Rattle.std.proofs.lemmas.Bool.{cases_Bool, eqb-true}
 use Rattle.std.proofs.lemmas.Bool.Decides.{nat_tests}
 use Rattle.mac_layout.specs.declared.error.AsmError.{AsmError}
 use Rattle.mac_layout.specs.declared.error.AsmError.TheVariants as errors
-use Rattle.mac_layout.specs.Places.{Placed, first_place}
-use Rattle.mac_asm.specs.Assembly.{start_at, word_at, by_place}
+use Rattle.mac_layout.specs.Addresses.{Placed, first_address}
+use Rattle.mac_asm.specs.Assembly.{start_at, word_at, by_address}
 use Rattle.mac_layout.specs.Faults.{Fault}
 use Rattle.mac_asm.specs.Outcome.{words_given, image_with, outcome_placed}
 use Rattle.mac_asm.specs.Filled.{Cells, put_all, words_in_cells, filled_with, filled, empty_cells, PutsLines, Assembles}
 
-pub by_place_below : (words : List (ℕ × ℕ)) (n : ℕ) → n ≡ 2 ^ 18 → by_place words ≡ filter_map (word_at words) (range_with_len 0 n)
-unfolding by_place
-by_place_below words n is = ap (λ m. filter_map (word_at words) (range_with_len 0 m)) (sym is)
+pub by_address_below : (words : List (ℕ × ℕ)) (n : ℕ) → n ≡ 2 ^ 18 → by_address words ≡ filter_map (word_at words) (range_with_len 0 n)
+unfolding by_address
+by_address_below words n is = ap (λ m. filter_map (word_at words) (range_with_len 0 m)) (sym is)
 
 put_length : (cells : Cells) (words : List (ℕ × ℕ)) → length (put_all cells words) ≡ length cells
 put_length cells [] = refl
@@ -68,23 +68,23 @@ put_read cells (word ∷ words) k lt =
     ∙ ap (λ o. or_else o (get_or cells k None)) (sym (lookup_in_both (nat_eq k) (reverse words) (word ∷ [])))
     ∙ ap (λ ws. or_else (lookup (nat_eq k) ws) (get_or cells k None)) (sym (reverse-append (word ∷ []) words))
 
-first_cell : (place : ℕ) (cell : Option ℕ) (cells : Cells)
-    → words_in_cells place (cell ∷ cells) ≡ cons_option (option_map (λ w. (place, w)) cell) (words_in_cells (place + 1) cells)
-first_cell place None cells = refl
-first_cell place (Some word) cells = refl
+first_cell : (address : ℕ) (cell : Option ℕ) (cells : Cells)
+    → words_in_cells address (cell ∷ cells) ≡ cons_option (option_map (λ w. (address, w)) cell) (words_in_cells (address + 1) cells)
+first_cell address None cells = refl
+first_cell address (Some word) cells = refl
 
--- cells by their places
-cells_read : (place : ℕ) (cells : Cells) (f : ℕ → Option (ℕ × ℕ))
-    → ((k : ℕ) → k < length cells → option_map (λ w. (place + k, w)) (get_or cells k None) ≡ f (place + k))
-    → words_in_cells place cells ≡ filter_map f (range_with_len place (length cells))
-cells_read place [] f reads = refl
-cells_read place (cell ∷ cells) f reads =
+-- cells by their addresses
+cells_read : (address : ℕ) (cells : Cells) (f : ℕ → Option (ℕ × ℕ))
+    → ((k : ℕ) → k < length cells → option_map (λ w. (address + k, w)) (get_or cells k None) ≡ f (address + k))
+    → words_in_cells address cells ≡ filter_map f (range_with_len address (length cells))
+cells_read address [] f reads = refl
+cells_read address (cell ∷ cells) f reads =
     let lt : 0 < suc (length cells) = omega arith in
-    let here : place + 0 ≡ place = omega arith in
-    first_cell place cell cells
-    ∙ ap (λ o. cons_option o (words_in_cells (place + 1) cells)) (ap (λ p. option_map (λ w. (p, w)) cell) (sym here) ∙ reads 0 lt ∙ ap f here)
-    ∙ ap (cons_option (f place)) (cells_read (place + 1) cells f (λ k below.
-    let next : place + 1 + k ≡ place + suc k = omega arith in
+    let here : address + 0 ≡ address = omega arith in
+    first_cell address cell cells
+    ∙ ap (λ o. cons_option o (words_in_cells (address + 1) cells)) (ap (λ p. option_map (λ w. (p, w)) cell) (sym here) ∙ reads 0 lt ∙ ap f here)
+    ∙ ap (cons_option (f address)) (cells_read (address + 1) cells f (λ k below.
+    let next : address + 1 + k ≡ address + suc k = omega arith in
     let more : suc k < suc (length cells) = omega arith in
     ap (λ p. option_map (λ w. (p, w)) (get_or cells k None)) next ∙ reads (suc k) more ∙ ap f (sym next)))
 
@@ -122,7 +122,7 @@ image_filled : (n start begins : ℕ) (given : Result (List (ℕ × ℕ)) Fault)
 image_filled n start begins (Ok words) new all is =
     let cells_are : put_all (empty_cells n) words ≡ new = (same_pair (put_all (empty_cells n) words) new start begins is).0 in
     let start_is : start ≡ begins = (same_pair (put_all (empty_cells n) words) new start begins is).1 in
-    ap (λ ws. Ok (record { words = ws; start = start })) (by_place_below (reverse words) n all ∙ sym (words_are n words) ∙ ap (words_in_cells 0) cells_are)
+    ap (λ ws. Ok (record { words = ws; start = start })) (by_address_below (reverse words) n all ∙ sym (words_are n words) ∙ ap (words_in_cells 0) cells_are)
     ∙ ap (λ s. Ok (record { words = words_in_cells 0 new; start = s })) start_is
 image_filled n start begins (Err fault) new all is = cc
 
@@ -133,7 +133,7 @@ pub outcome_filled : (n start : ℕ) (lines : List Placed) (old new : Cells) (wo
     → outcome_placed lines ≡ Ok (record { words = words; start = start })
 unfolding outcome_placed
 outcome_filled n start lines old new words all empty is words_is =
-    image_filled n (unwrap_or (start_at lines) first_place) start (words_given 1 lines) new all (ap (λ cells. filled cells lines) (sym empty) ∙ is)
+    image_filled n (unwrap_or (start_at lines) first_address) start (words_given 1 lines) new all (ap (λ cells. filled cells lines) (sym empty) ∙ is)
     ∙ ap (λ ws. Ok (record { words = ws; start = start })) (sym words_is)
 
 image_fails : (start begins : ℕ) (old : Cells) (given : Result (List (ℕ × ℕ)) Fault) (fault : Fault)
@@ -147,6 +147,6 @@ image_fails start begins old (Err f) fault is =
 pub outcome_fails : (e : AsmError) (lines : List Placed) (old new : Cells) → PutsLines (Err e) old new lines → Assembles (Err e) (outcome_placed lines)
 unfolding outcome_placed
 outcome_fails (errors.Line line code) lines old new is =
-    image_fails (unwrap_or (start_at lines) first_place) (unwrap_or (start_at lines) first_place) old (words_given 1 lines)
+    image_fails (unwrap_or (start_at lines) first_address) (unwrap_or (start_at lines) first_address) old (words_given 1 lines)
     (record { line = line; code = code }) is
 outcome_fails errors.Memory lines old new is = tt

@@ -8,7 +8,7 @@ use borrow.Author.Tests.{ltb-true, ltb-false}
 use Rattle.mac_text.specs.declared.syntax.Data.{Data}
 use Rattle.mac_text.specs.declared.syntax.Line.{Line}
 use Rattle.mac_layout.specs.Values.{◌>>=◌, Names}
-use Rattle.mac_layout.specs.Places.{Placed}
+use Rattle.mac_layout.specs.Addresses.{Placed}
 use Rattle.mac_asm.specs.Assembly.{words_from, literal_words, statement_words}
 use Rattle.mac_asm.specs.Outcome.{line_words, has_start}
 use Rattle.mac_asm.specs.Filled.{Cells, put_all, start_named, PutsLine}
@@ -33,10 +33,10 @@ pub put_nothing : (cells : Cells) (words : Option (List (ℕ × ℕ))) → optio
 put_nothing cells None is = refl
 put_nothing cells (Some words) is = cc
 
-literals_more : (names : Names) (place : ℕ) (given : Data) (later : List (ℕ × Data))
-    → literal_words names ((place, given) ∷ later) ≡ then_words (words_from names place given) (literal_words names later)
+literals_more : (names : Names) (address : ℕ) (given : Data) (later : List (ℕ × Data))
+    → literal_words names ((address, given) ∷ later) ≡ then_words (words_from names address given) (literal_words names later)
 unfolding literal_words
-literals_more names place given later = refl
+literals_more names address given later = refl
 
 no_literals : (names : Names) → literal_words names [] ≡ Some []
 unfolding literal_words
@@ -45,73 +45,73 @@ no_literals names = refl
 the_same : (p q : ℕ) → Some p ≡ Some q → p ≡ q
 the_same p q is = cc
 
-pub place_next : (places : List ℕ) (i place : ℕ) → slice_get places i ≡ Some place → drop i places ≡ place ∷ drop (i + 1) places
-place_next [] i place is = cc
-place_next (p ∷ ps) zero place is = ap (λ q. q ∷ ps) (the_same p place is)
-place_next (p ∷ ps) (suc i) place is =
+pub address_next : (addresses : List ℕ) (i address : ℕ) → slice_get addresses i ≡ Some address → drop i addresses ≡ address ∷ drop (i + 1) addresses
+address_next [] i address is = cc
+address_next (p ∷ ps) zero address is = ap (λ q. q ∷ ps) (the_same p address is)
+address_next (p ∷ ps) (suc i) address is =
     let next : suc (i + 1) ≡ suc i + 1 = omega arith in
-    place_next ps i place is ∙ ap (λ k. place ∷ drop k (p ∷ ps)) next
+    address_next ps i address is ∙ ap (λ k. address ∷ drop k (p ∷ ps)) next
 
-pub place_none : (places : List ℕ) (i : ℕ) → slice_get places i ≡ None → drop i places ≡ []
-place_none [] zero is = refl
-place_none [] (suc i) is = refl
-place_none (p ∷ ps) zero is = cc
-place_none (p ∷ ps) (suc i) is = place_none ps i is
+pub address_none : (addresses : List ℕ) (i : ℕ) → slice_get addresses i ≡ None → drop i addresses ≡ []
+address_none [] zero is = refl
+address_none [] (suc i) is = refl
+address_none (p ∷ ps) zero is = cc
+address_none (p ∷ ps) (suc i) is = address_none ps i is
 
 zip_none : (givens : List Data) → zip {K = ℕ} [] givens ≡ []
 zip_none givens = refl
 
-zip_nothing : (places : List ℕ) → zip {X = Data} places [] ≡ []
+zip_nothing : (addresses : List ℕ) → zip {X = Data} addresses [] ≡ []
 zip_nothing [] = refl
 zip_nothing (p ∷ ps) = refl
 
 -- the literal at i, and those behind it
-literal_next : (names : Names) (places : List ℕ) (givens : List Data) (i place : ℕ) (given : Data) → i < length givens
-    → slice_get places i ≡ Some place
+literal_next : (names : Names) (addresses : List ℕ) (givens : List Data) (i address : ℕ) (given : Data) → i < length givens
+    → slice_get addresses i ≡ Some address
     → get_or givens i given ≡ given
-    → literal_words names (zip (drop i places) (drop i givens))
-    ≡ then_words (words_from names place given) (literal_words names (zip (drop (i + 1) places) (drop (i + 1) givens)))
-literal_next names places givens i place given lt at is =
-    ap (λ ps. literal_words names (zip ps (drop i givens))) (place_next places i place at)
-    ∙ ap (λ gs. literal_words names (zip (place ∷ drop (i + 1) places) gs)) (drop_more givens i given lt ∙ ap (λ g. g ∷ drop (i + 1) givens) is)
-    ∙ literals_more names place given (zip (drop (i + 1) places) (drop (i + 1) givens))
+    → literal_words names (zip (drop i addresses) (drop i givens))
+    ≡ then_words (words_from names address given) (literal_words names (zip (drop (i + 1) addresses) (drop (i + 1) givens)))
+literal_next names addresses givens i address given lt at is =
+    ap (λ ps. literal_words names (zip ps (drop i givens))) (address_next addresses i address at)
+    ∙ ap (λ gs. literal_words names (zip (address ∷ drop (i + 1) addresses) gs)) (drop_more givens i given lt ∙ ap (λ g. g ∷ drop (i + 1) givens) is)
+    ∙ literals_more names address given (zip (drop (i + 1) addresses) (drop (i + 1) givens))
 
-pub literal_put : (names : Names) (places : List ℕ) (givens : List Data) (i place : ℕ) (given : Data) (cells new : Cells) (total : Option Cells)
-    → i < length givens → slice_get places i ≡ Some place → get_or givens i given ≡ given
-    → option_map (put_all cells) (words_from names place given) ≡ Some new
-    → option_map (put_all cells) (literal_words names (zip (drop i places) (drop i givens))) ≡ total
-    → option_map (put_all new) (literal_words names (zip (drop (i + 1) places) (drop (i + 1) givens))) ≡ total
-literal_put names places givens i place given cells new total lt at is puts so_far =
-    sym (put_then cells new (words_from names place given) (literal_words names (zip (drop (i + 1) places) (drop (i + 1) givens))) puts)
-    ∙ sym (ap (option_map (put_all cells)) (literal_next names places givens i place given lt at is)) ∙ so_far
+pub literal_put : (names : Names) (addresses : List ℕ) (givens : List Data) (i address : ℕ) (given : Data) (cells new : Cells) (total : Option Cells)
+    → i < length givens → slice_get addresses i ≡ Some address → get_or givens i given ≡ given
+    → option_map (put_all cells) (words_from names address given) ≡ Some new
+    → option_map (put_all cells) (literal_words names (zip (drop i addresses) (drop i givens))) ≡ total
+    → option_map (put_all new) (literal_words names (zip (drop (i + 1) addresses) (drop (i + 1) givens))) ≡ total
+literal_put names addresses givens i address given cells new total lt at is puts so_far =
+    sym (put_then cells new (words_from names address given) (literal_words names (zip (drop (i + 1) addresses) (drop (i + 1) givens))) puts)
+    ∙ sym (ap (option_map (put_all cells)) (literal_next names addresses givens i address given lt at is)) ∙ so_far
 
-pub literal_fails : (names : Names) (places : List ℕ) (givens : List Data) (i place : ℕ) (given : Data) (cells first : Cells)
-    → i < length givens → slice_get places i ≡ Some place → get_or givens i given ≡ given
-    → words_from names place given ≡ None
-    → option_map (put_all cells) (literal_words names (zip (drop i places) (drop i givens)))
-    ≡ option_map (put_all first) (literal_words names (zip places givens))
-    → literal_words names (zip places givens) ≡ None
-literal_fails names places givens i place given cells first lt at is fails so_far =
-    put_nothing first (literal_words names (zip places givens))
+pub literal_fails : (names : Names) (addresses : List ℕ) (givens : List Data) (i address : ℕ) (given : Data) (cells first : Cells)
+    → i < length givens → slice_get addresses i ≡ Some address → get_or givens i given ≡ given
+    → words_from names address given ≡ None
+    → option_map (put_all cells) (literal_words names (zip (drop i addresses) (drop i givens)))
+    ≡ option_map (put_all first) (literal_words names (zip addresses givens))
+    → literal_words names (zip addresses givens) ≡ None
+literal_fails names addresses givens i address given cells first lt at is fails so_far =
+    put_nothing first (literal_words names (zip addresses givens))
     (sym so_far
     ∙ ap (option_map (put_all cells))
-    (literal_next names places givens i place given lt at is
-    ∙ ap (λ w. then_words w (literal_words names (zip (drop (i + 1) places) (drop (i + 1) givens)))) fails))
+    (literal_next names addresses givens i address given lt at is
+    ∙ ap (λ w. then_words w (literal_words names (zip (drop (i + 1) addresses) (drop (i + 1) givens)))) fails))
 
--- no place is left, or no literal
-pub literals_done : (names : Names) (places : List ℕ) (givens : List Data) (i : ℕ) (cells : Cells) (total : Option Cells)
-    → slice_get places i ≡ None
-    → option_map (put_all cells) (literal_words names (zip (drop i places) (drop i givens))) ≡ total → total ≡ Some cells
-literals_done names places givens i cells total none so_far =
-    sym so_far ∙ ap (λ ps. option_map (put_all cells) (literal_words names (zip ps (drop i givens)))) (place_none places i none)
+-- no address is left, or no literal
+pub literals_done : (names : Names) (addresses : List ℕ) (givens : List Data) (i : ℕ) (cells : Cells) (total : Option Cells)
+    → slice_get addresses i ≡ None
+    → option_map (put_all cells) (literal_words names (zip (drop i addresses) (drop i givens))) ≡ total → total ≡ Some cells
+literals_done names addresses givens i cells total none so_far =
+    sym so_far ∙ ap (λ ps. option_map (put_all cells) (literal_words names (zip ps (drop i givens)))) (address_none addresses i none)
     ∙ ap (λ zs. option_map (put_all cells) (literal_words names zs)) (zip_none (drop i givens)) ∙ ap (option_map (put_all cells)) (no_literals names)
 
-pub literals_end : (names : Names) (places : List ℕ) (givens : List Data) (i : ℕ) (cells : Cells) (total : Option Cells)
+pub literals_end : (names : Names) (addresses : List ℕ) (givens : List Data) (i : ℕ) (cells : Cells) (total : Option Cells)
     → length givens ≤ i
-    → option_map (put_all cells) (literal_words names (zip (drop i places) (drop i givens))) ≡ total → total ≡ Some cells
-literals_end names places givens i cells total done so_far =
-    sym so_far ∙ ap (λ gs. option_map (put_all cells) (literal_words names (zip (drop i places) gs))) (drop_of_length-le givens done)
-    ∙ ap (λ zs. option_map (put_all cells) (literal_words names zs)) (zip_nothing (drop i places)) ∙ ap (option_map (put_all cells)) (no_literals names)
+    → option_map (put_all cells) (literal_words names (zip (drop i addresses) (drop i givens))) ≡ total → total ≡ Some cells
+literals_end names addresses givens i cells total done so_far =
+    sym so_far ∙ ap (λ gs. option_map (put_all cells) (literal_words names (zip (drop i addresses) gs))) (drop_of_length-le givens done)
+    ∙ ap (λ zs. option_map (put_all cells) (literal_words names zs)) (zip_nothing (drop i addresses)) ∙ ap (option_map (put_all cells)) (no_literals names)
 
 pub item_at : (xs : List ℕ) (i x : ℕ) → true ≡ ltb i (length xs) → x ≡ get_or xs i x → slice_get xs i ≡ Some x
 item_at xs i x within is =

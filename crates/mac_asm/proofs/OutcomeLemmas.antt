@@ -12,7 +12,7 @@ use Rattle.mac_layout.specs.declared.error.AsmCode.TheVariants.{Syntax, NoEnd}
 use Rattle.mac_layout.specs.declared.error.AsmError.{AsmError}
 use Rattle.mac_layout.specs.declared.error.AsmError.TheVariants as errors
 use Rattle.mac_layout.specs.declared.layout.Layout.{Layout as Given}
-use Rattle.mac_layout.specs.LaidOut.{laid_out, empty_layout, places_of_literals}
+use Rattle.mac_layout.specs.LaidOut.{laid_out, empty_layout, addresses_of_literals}
 use Rattle.mac_asm.specs.Outcome.{has_end, lines_with, outcome_placed, outcome_from, outcome_read, outcome_of}
 use Rattle.mac_layout.specs.Layouts.{IsLayoutOf, Refuses}
 use Rattle.mac_layout.specs.Errors.{refusal_of}
@@ -72,15 +72,15 @@ not_laid_out errors.Memory source lines is end refused = tt
 
 -- lines that are laid out
 laid : (source : List ℕ) (lines : List Line) (given : Given) → program_of source ≡ Ok lines → has_end lines ≡ true → IsLayoutOf given lines
-    → outcome_of source ≡ outcome_placed (lines_with given.labels.entries given.places.items given.literals.items lines)
+    → outcome_of source ≡ outcome_placed (lines_with given.labels.entries given.addresses.items given.literals.items lines)
 laid source lines given is end l =
     with_end source lines is end ∙ ap (outcome_from lines) l.is
-    ∙ ap (λ labels. outcome_placed (lines_with labels l.layout.places (places_of_literals l.layout) lines)) (sym l.labels)
-    ∙ ap (λ places. outcome_placed (lines_with given.labels.entries places (places_of_literals l.layout) lines)) (sym l.places)
-    ∙ ap (λ literals. outcome_placed (lines_with given.labels.entries given.places.items literals lines)) (sym l.literals)
+    ∙ ap (λ labels. outcome_placed (lines_with labels l.layout.addresses (addresses_of_literals l.layout) lines)) (sym l.labels)
+    ∙ ap (λ addresses. outcome_placed (lines_with given.labels.entries addresses (addresses_of_literals l.layout) lines)) (sym l.addresses)
+    ∙ ap (λ literals. outcome_placed (lines_with given.labels.entries given.addresses.items literals lines)) (sym l.literals)
 
 pub told : (r : Result Image AsmError) (source : List ℕ) (lines : List Line) (given : Given) → program_of source ≡ Ok lines
     → has_end lines ≡ true
     → IsLayoutOf given lines
-    → Assembles r (outcome_placed (lines_with given.labels.entries given.places.items given.literals.items lines)) → Assembles r (outcome_of source)
+    → Assembles r (outcome_placed (lines_with given.labels.entries given.addresses.items given.literals.items lines)) → Assembles r (outcome_of source)
 told r source lines given is end l tells = subst (Assembles r) (sym (laid source lines given is end l)) tells

@@ -1,6 +1,6 @@
 pub use Rattle.mac_layout.specs.Values
 pub use Rattle.mac_layout.specs.TextSizes
-pub use Rattle.mac_layout.specs.Places
+pub use Rattle.mac_layout.specs.Addresses
 pub use Rattle.mac_layout.specs.Faults
 pub use Rattle.mac_layout.specs.LaidOut
 pub use Rattle.mac_layout.specs.Layouts

@@ -5,7 +5,7 @@ use Rattle.mac_text.specs.Lines.{program_of}
 use Rattle.mac_text.specs.declared.syntax.Line.{Line}
 use Rattle.mac_layout.specs.declared.error.AsmError.{AsmError}
 use Rattle.mac_asm.specs.declared.assembly.Listing.{Listing}
-use Rattle.mac_layout.specs.Places.{Labels}
+use Rattle.mac_layout.specs.Addresses.{Labels}
 use Rattle.mac_layout.specs.Faults.{Fault}
 use Rattle.mac_layout.specs.LaidOut.{Layout, laid_out, empty_layout}
 

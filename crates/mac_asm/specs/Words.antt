@@ -1,6 +1,7 @@
 -- The words of statements (MACRO-10 Assembler Manual, this project's profile): nothing where a name is not known or a
 -- value does not fit.
-use Rattle.std.specs.Prelude.{◌≡◌, ℕ, zero, suc, pos, neg_ℤ, ◌-ℤ◌, ◌<◌, ◌+◌, ◌-◌, ◌*◌, ◌^◌, Bool, true, false, ◌&&◌, not, is_none}
+use Rattle.std.specs.Prelude.{◌≡◌, ℕ, zero, suc, pos, neg_ℤ, ◌-ℤ◌, ◌<◌, ◌+◌, ◌-◌}
+use Rattle.std.specs.Prelude.{◌*◌, ◌^◌, Bool, true, false, ◌&&◌, not, is_none}
 use Rattle.std.specs.Prelude.{nat_le, List, [], ◌∷◌, ◌++◌, length, Option, Some, None, option_map, if◌then◌else◌}
 use Rattle.std.specs.List.{list_all}
 use Rattle.ka_isa.specs.declared.Fields.{Fields}
@@ -152,7 +153,7 @@ is_known_if names (Some e) = is_known names e
 abbrev pub is_operand_known : Names → Operand → Bool
 is_operand_known names o = is_known_if names o.address && is_known_if names o.index
 
--- whether all names of a statement are known; those of BLOCK are looked up where it stands
+-- whether all names of a statement are known; those of BLOCK are, once it is laid out
 unfoldable pub are_known : Names → Data → Bool
 are_known names (data_of.Value e) = is_known names e
 are_known names (data_of.Halves left right) = is_known names left && is_known names right

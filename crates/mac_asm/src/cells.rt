@@ -3,13 +3,13 @@
 ghost use Rattle.std.specs.Prelude.{◌≡◌, ◌<◌, ◌≤◌, ◌^◌, IfOk, OnOk, Some, length, replicate, set};
 ghost use Rattle.mac_asm.specs.Filled.{empty_cells, put_from, words_in_cells};
 
-use mac_layout::{PLACES, clamped};
+use mac_layout::{MEMORY_SIZE, clamped};
 use std::alloc::{AllocError, Global};
 use std::marker::Model;
 use whole_numbers::Natural;
 use word36::Word;
 
-/// The cells of a memory of 1000000 octal places: the word of each, if it has one.
+/// The cells of a memory of 1000000 octal addresses: the word of each, if it has one.
 #[derive(Drop)]
 pub struct Cells {
     /// The first cells; none behind them has a word.
@@ -28,13 +28,13 @@ impl Model for Cells {
 }
 
 impl Cells {
-    /// No cell has a word; the first so many are given one without asking for memory again.
+    /// Empty cells; memory for the first `cells` is reserved.
     #[tactic(auto, using(crate::proofs::CellLemmas::all_none))]
     pub fn with_room(alloc: Global, cells: usize) -> Result<Cells, AllocError>
         ensures { IfOk result (λ cells. cells ≡ empty_cells (2 ^ 18)) }
     {
         Ok(Cells {
-            first: Vec::with_capacity(alloc, cells.min(PLACES))?,
+            first: Vec::with_capacity(alloc, cells.min(MEMORY_SIZE))?,
         })
     }
 
@@ -43,10 +43,10 @@ impl Cells {
     #[inline(always)]
     fn len(&self) -> usize
         ensures cells { result ≡ length self.now }
-        ensures places { result ≡ 2 ^ 18 }
+        ensures addresses { result ≡ 2 ^ 18 }
     {
-        prove!(self.first.len() <= PLACES);
-        PLACES
+        prove!(self.first.len() <= MEMORY_SIZE);
+        MEMORY_SIZE
     }
 
     /// Puts a word in cell `at`.
@@ -65,24 +65,24 @@ impl Cells {
         Ok(())
     }
 
-    /// Puts a word in a place; one that has no cell is put nowhere.
+    /// Puts a word at an address; a word without a cell is dropped.
     #[inline(always)]
-    pub fn put_one(&mut self, place: &Natural, word: Word) -> Result<(), AllocError>
-        ensures { OnOk result (self.new ≡ set self.old place.now (Some word)) }
+    pub fn put_one(&mut self, address: &Natural, word: Word) -> Result<(), AllocError>
+        ensures { OnOk result (self.new ≡ set self.old address.now (Some word)) }
     {
-        let at = clamped(place, self.len());
+        let at = clamped(address, self.len());
         if at < self.len() {
             self.set(at, word)?;
         }
         Ok(())
     }
 
-    /// Puts words from a place on; one that has no cell is put nowhere.
-    pub fn put(&mut self, place: &Natural, words: &[Word]) -> Result<(), AllocError>
-        ensures { OnOk result (self.new ≡ put_from self.old place.now words.now) }
+    /// Puts words from an address on; words without a cell are dropped.
+    pub fn put(&mut self, address: &Natural, words: &[Word]) -> Result<(), AllocError>
+        ensures { OnOk result (self.new ≡ put_from self.old address.now words.now) }
     {
         let len = self.len();
-        let mut at = clamped(place, len);
+        let mut at = clamped(address, len);
         for word in words {
             if at == len {
                 return Ok(());
@@ -93,12 +93,12 @@ impl Cells {
         Ok(())
     }
 
-    /// Puts so many words of 0 from a place on, likewise.
-    pub fn put_zeros(&mut self, place: &Natural, count: &Natural) -> Result<(), AllocError>
-        ensures { OnOk result (self.new ≡ put_from self.old place.now (replicate count.now 0)) }
+    /// Puts `count` words of 0 from an address on; words without a cell are dropped.
+    pub fn put_zeros(&mut self, address: &Natural, count: &Natural) -> Result<(), AllocError>
+        ensures { OnOk result (self.new ≡ put_from self.old address.now (replicate count.now 0)) }
     {
         let len = self.len();
-        let first = clamped(place, len);
+        let first = clamped(address, len);
         let end = first + clamped(count, len - first);
         for at in first..end {
             self.set(at, Word::new(0))?;
@@ -106,7 +106,7 @@ impl Cells {
         Ok(())
     }
 
-    /// The words of the cells that have one, with their places.
+    /// The words of the cells that have one, with their addresses.
     pub fn words(&self, alloc: Global) -> Result<Vec<(u32, Word)>, AllocError>
         ensures { IfOk result (λ words. words.items ≡ words_in_cells 0 self.now) }
     {
@@ -120,9 +120,9 @@ fn words_in_cells(alloc: Global, cells: &[Option<Word>]) -> Result<Vec<(u32, Wor
     ensures { IfOk result (λ words. words.items ≡ words_in_cells 0 cells.now) }
 {
     let mut words = Vec::new(alloc);
-    for (place, cell) in cells.iter().enumerate() {
+    for (address, cell) in cells.iter().enumerate() {
         if let Some(word) = cell {
-            words.push((place as u32, *word))?;
+            words.push((address as u32, *word))?;
         }
     }
     Ok(words)

@@ -1,10 +1,13 @@
 //! The words of statements.
 
-ghost use Rattle.std.specs.Prelude.{◌≡◌, ◌<◌, ◌≤◌, ◌^◌, ◌++◌, [], ◌∷◌, Some, None, IfOk, IfSome, length, true, false};
+ghost use Rattle.std.specs.Prelude.{◌≡◌, ◌<◌, ◌≤◌, ◌^◌, ◌++◌, [], ◌∷◌};
+ghost use Rattle.std.specs.Prelude.{Some, None, IfOk, IfSome, length, true, false};
 ghost use Rattle.mac_layout.specs.Values.{names_of, is_known};
 ghost use Rattle.mac_layout.specs.TextSizes.{words_in};
-ghost use Rattle.mac_asm.specs.Words.{fitted, word_of, half_of, register_of, start_of, operand_of, or_zero, AreFields, pointer_word, text_word};
-ghost use Rattle.mac_asm.specs.Words.{is_missing, with_accumulator, with_operand, instruction_of, at_most, position_of, pointer_of, halves_of, iowd_of};
+ghost use Rattle.mac_asm.specs.Words.{fitted, word_of, half_of, register_of, start_of, operand_of};
+ghost use Rattle.mac_asm.specs.Words.{or_zero, AreFields, pointer_word, text_word};
+ghost use Rattle.mac_asm.specs.Words.{is_missing, with_accumulator, with_operand, instruction_of};
+ghost use Rattle.mac_asm.specs.Words.{at_most, position_of, pointer_of, halves_of, iowd_of};
 ghost use Rattle.mac_asm.specs.Words.{words_of_all, text_words_from, is_known_if, is_operand_known, are_known, Adds};
 ghost use Rattle.std.specs.List.{list_all};
 
@@ -16,10 +19,20 @@ use std::alloc::{AllocError, Global};
 use whole_numbers::Natural;
 use word36::Word;
 
+/// The value of an `Option`; with None the function returns None.
+macro_rules! known {
+    ($value:expr) => {
+        match $value {
+            Some(value) => value,
+            None => return Ok(None),
+        }
+    };
+}
+
 /// How many values a half of a word has.
 const HALVES: u64 = 1 << 18;
 
-/// The value of an expression modulo a size, where it is at least `-least` and at most `most`.
+/// The value of an expression modulo a size; None if a name is not known, or the value is below `-least` or above `most`.
 #[tactic(auto, unfolding(crate::specs::Words::fitted, mac_layout::specs::Values::value_of, mac_layout::specs::Values::residue_of))]
 #[inline(always)]
 fn fitted<'a>(
@@ -45,8 +58,8 @@ fn fitted<'a>(
     }
 }
 
-/// The value of an expression that 64 bits do not hold, or that has a name that is not known, modulo a size: nothing where
-/// the name is not known, or the value is below `-least` or above `most`.
+/// The value of an expression that does not fit 64 bits, modulo a size; None if a name is not known, or the value is below
+/// `-least` or above `most`.
 #[tactic(auto, unfolding(crate::specs::Words::fitted))]
 #[inline(never)]
 fn long_fitted<'a>(
@@ -63,10 +76,8 @@ fn long_fitted<'a>(
     ensures value { IfOk result (λ r. r ≡ fitted (names_of scope.now) least most size expression.now) }
     ensures below { IfOk result (λ r. IfSome r (λ n. n < size)) }
 {
-    match value(alloc, expression, scope)? {
-        None => Ok(None),
-        Some(sum) => sum.residue(alloc, least, most, size),
-    }
+    let sum = known!(value(alloc, expression, scope)?);
+    sum.residue(alloc, least, most, size)
 }
 
 /// The word of a value from -2^35 to 2^36-1.
@@ -77,10 +88,8 @@ pub fn word<'a>(
 ) -> Result<Option<Word>, AllocError>
     ensures { IfOk result (λ r. r ≡ word_of (names_of scope.now) expression.now) }
 {
-    match fitted(alloc, expression, scope, 1 << 35, (1 << 36) - 1, 1 << 36)? {
-        None => Ok(None),
-        Some(number) => Ok(Some(Word::new(number))),
-    }
+    let number = known!(fitted(alloc, expression, scope, 1 << 35, (1 << 36) - 1, 1 << 36)?);
+    Ok(Some(Word::new(number)))
 }
 
 /// A half of a value from -262143 to 262143.
@@ -92,10 +101,8 @@ fn half<'a>(
     ensures value { IfOk result (λ r. r ≡ half_of (names_of scope.now) expression.now) }
     ensures below { IfOk result (λ r. IfSome r (λ half. half < 2 ^ 18)) }
 {
-    match fitted(alloc, expression, scope, 0o777_777, 0o777_777, HALVES)? {
-        None => Ok(None),
-        Some(number) => Ok(Some(number as u32)),
-    }
+    let number = known!(fitted(alloc, expression, scope, 0o777_777, 0o777_777, HALVES)?);
+    Ok(Some(number as u32))
 }
 
 /// A register of a value from 0 to 17 octal.
@@ -107,10 +114,8 @@ fn register<'a>(
     ensures value { IfOk result (λ r. r ≡ register_of (names_of scope.now) expression.now) }
     ensures below { IfOk result (λ r. IfSome r (λ register. register < 2 ^ 4)) }
 {
-    match fitted(alloc, expression, scope, 0, 0o17, 0o20)? {
-        None => Ok(None),
-        Some(number) => Ok(Some(number as u8)),
-    }
+    let number = known!(fitted(alloc, expression, scope, 0, 0o17, 0o20)?);
+    Ok(Some(number as u8))
 }
 
 /// A start of a value from 0 to 777777 octal.
@@ -120,12 +125,10 @@ pub fn start<'a>(
     scope: &Scope<'a>,
 ) -> Result<Option<u32>, AllocError>
     ensures value { IfOk result (λ r. r ≡ start_of (names_of scope.now) expression.now) }
-    ensures below { IfOk result (λ r. IfSome r (λ place. place < 2 ^ 18)) }
+    ensures below { IfOk result (λ r. IfSome r (λ address. address < 2 ^ 18)) }
 {
-    match fitted(alloc, expression, scope, 0, 0o777_777, HALVES)? {
-        None => Ok(None),
-        Some(number) => Ok(Some(number as u32)),
-    }
+    let number = known!(fitted(alloc, expression, scope, 0, 0o777_777, HALVES)?);
+    Ok(Some(number as u32))
 }
 
 /// An index register, 0 where none is written.
@@ -169,12 +172,8 @@ fn operand<'a>(
     ensures value { IfOk result (λ r. r ≡ operand_of (names_of scope.now) operand.now) }
     ensures below { IfOk result (λ r. IfSome r (λ p. (p.1 < 2 ^ 4) × (p.2 < 2 ^ 18))) }
 {
-    let Some(x) = index(alloc, &operand.index, scope)? else {
-        return Ok(None);
-    };
-    let Some(y) = address(alloc, &operand.address, scope)? else {
-        return Ok(None);
-    };
+    let x = known!(index(alloc, &operand.index, scope)?);
+    let y = known!(address(alloc, &operand.address, scope)?);
     Ok(Some((operand.indirect, x, y)))
 }
 
@@ -199,13 +198,10 @@ fn with_accumulator<'a>(
 {
     match accumulator {
         None => Ok(Some(fields)),
-        Some(expression) => match register(alloc, expression, scope)? {
-            None => Ok(None),
-            Some(ac) => {
-                fields.ac = ac;
-                Ok(Some(fields))
-            }
-        },
+        Some(expression) => {
+            fields.ac = known!(register(alloc, expression, scope)?);
+            Ok(Some(fields))
+        }
     }
 }
 
@@ -224,15 +220,11 @@ fn with_operand<'a>(
     if is_missing(given) {
         return Ok(Some(fields));
     }
-    match operand(alloc, given, scope)? {
-        None => Ok(None),
-        Some((i, x, y)) => {
-            fields.i = i;
-            fields.x = x;
-            fields.y = y;
-            Ok(Some(fields))
-        }
-    }
+    let (i, x, y) = known!(operand(alloc, given, scope)?);
+    fields.i = i;
+    fields.x = x;
+    fields.y = y;
+    Ok(Some(fields))
 }
 
 /// The word of an instruction: that of its name, with the fields that are written.
@@ -245,12 +237,8 @@ pub fn instruction<'a>(
     ensures { IfOk result (λ r. r ≡ instruction_of (names_of scope.now) given.now) }
 {
     let fields = decode(given.word);
-    let Some(fields) = with_accumulator(alloc, fields, &given.accumulator, scope)? else {
-        return Ok(None);
-    };
-    let Some(fields) = with_operand(alloc, fields, &given.operand, scope)? else {
-        return Ok(None);
-    };
+    let fields = known!(with_accumulator(alloc, fields, &given.accumulator, scope)?);
+    let fields = known!(with_operand(alloc, fields, &given.operand, scope)?);
     Ok(Some(encode(fields)))
 }
 
@@ -292,15 +280,9 @@ pub fn pointer<'a>(
 ) -> Result<Option<Word>, AllocError>
     ensures { IfOk result (λ r. r ≡ pointer_of (names_of scope.now) size.now given.now last.now) }
 {
-    let Some(s) = at_most(36, size) else {
-        return Ok(None);
-    };
-    let Some(p) = position(last) else {
-        return Ok(None);
-    };
-    let Some((i, x, y)) = operand(alloc, given, scope)? else {
-        return Ok(None);
-    };
+    let s = known!(at_most(36, size));
+    let p = known!(position(last));
+    let (i, x, y) = known!(operand(alloc, given, scope)?);
     Ok(Some(pointer_word(p, s, i, x, y)))
 }
 
@@ -326,12 +308,8 @@ pub fn halves<'a>(
 ) -> Result<Option<Word>, AllocError>
     ensures { IfOk result (λ r. r ≡ halves_of (names_of scope.now) left.now right.now) }
 {
-    let Some(left) = half(alloc, left, scope)? else {
-        return Ok(None);
-    };
-    let Some(right) = half(alloc, right, scope)? else {
-        return Ok(None);
-    };
+    let left = known!(half(alloc, left, scope)?);
+    let right = known!(half(alloc, right, scope)?);
     Ok(Some(Word::join(left, right)))
 }
 
@@ -345,20 +323,12 @@ pub fn iowd<'a>(
 ) -> Result<Option<Word>, AllocError>
     ensures { IfOk result (λ r. r ≡ iowd_of (names_of scope.now) count.now address.now) }
 {
-    let Some(count) = value(alloc, count, scope)? else {
-        return Ok(None);
-    };
-    let Some(address) = value(alloc, address, scope)? else {
-        return Ok(None);
-    };
+    let count = known!(value(alloc, count, scope)?);
+    let address = known!(value(alloc, address, scope)?);
     let count = count.negated();
-    let Some(left) = count.residue(alloc, 0o777_777, 0o777_777, HALVES)? else {
-        return Ok(None);
-    };
+    let left = known!(count.residue(alloc, 0o777_777, 0o777_777, HALVES)?);
     let address = address.less_one(alloc)?;
-    let Some(right) = address.residue(alloc, 0o777_777, 0o777_777, HALVES)? else {
-        return Ok(None);
-    };
+    let right = known!(address.residue(alloc, 0o777_777, 0o777_777, HALVES)?);
     Ok(Some(Word::join(left as u32, right as u32)))
 }
 
@@ -376,7 +346,8 @@ fn text_word(form: TextForm, text: &[u8], i: usize) -> Option<Word>
 
 /// Adds the words of a text; false where a character has no code.
 pub fn push_text(words: &mut Vec<Word>, form: TextForm, text: &[u8]) -> Result<bool, AllocError>
-    ensures { IfOk result (λ added. Adds added words.old.items words.new.items (text_words_from form text.now 0 (words_in form (length text.now)))) }
+    ensures { IfOk result (λ added. Adds added words.old.items words.new.items
+        (text_words_from form text.now 0 (words_in form (length text.now)))) }
 {
     for i in 0..text_words(form, text.len()) {
         match text_word(form, text, i) {
@@ -394,7 +365,8 @@ pub fn push_all<'a>(
     expressions: &'a [Expression],
     scope: &Scope<'a>,
 ) -> Result<bool, AllocError>
-    ensures { IfOk result (λ added. Adds added words.old.items words.new.items (words_of_all (word_of (names_of scope.now)) expressions.now)) }
+    ensures { IfOk result (λ added. Adds added words.old.items words.new.items
+        (words_of_all (word_of (names_of scope.now)) expressions.now)) }
 {
     for expression in expressions {
         match word(alloc, expression, scope)? {
@@ -433,7 +405,7 @@ fn are_all_known<'a>(expressions: &'a [Expression], scope: &Scope<'a>) -> bool
     true
 }
 
-/// Whether all names of a statement are known; those of BLOCK were looked up before.
+/// Whether all names of a statement are known. Those of BLOCK are: the layout has found its count.
 #[tactic(auto, unfolding(crate::specs::Words::are_known))]
 pub fn are_known<'a>(data: &'a Data, scope: &Scope<'a>) -> bool
     ensures { result ≡ are_known (names_of scope.now) data.now }

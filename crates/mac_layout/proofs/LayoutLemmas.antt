@@ -1,4 +1,4 @@
--- Marks, places and labels while lines are laid out.
+-- Marks, addresses and labels while lines are laid out.
 use Rattle.std.proofs.Common.{◌≡◌, ◌∙◌, sym, ap, refl, subst, ℕ, zero, suc, ◌+◌, ◌-◌, ◌^◌, ◌<◌, ◌≤◌, ◌⊎◌, inl, inr, Bool, true, false, not, ◌&&◌, ◌||◌, ◌==◌}
 use Rattle.std.proofs.Common.{cond, nat_eq, nat_lt, nat_le, IfOk, List, [], ◌∷◌, ◌++◌, length, take, drop, set, replicate, get_or, min, map, is_some, Option}
 use Rattle.std.proofs.Common.{Some, None, Result, Ok, Err, append-nil, arith, length-append, length-drop, append_assoc}
@@ -12,11 +12,11 @@ use Rattle.std.proofs.lemmas.List.{get_or-set_same, get_or-set_other, get_or-tak
 use Rattle.std.proofs.lemmas.List.Folds.{list_any-append}
 use Rattle.std.proofs.lemmas.Bool.Decides.{nat_tests, leb_tells, eqb_tells}
 use Rattle.mac_layout.specs.declared.error.AsmCode.{AsmCode}
-use Rattle.mac_layout.specs.declared.error.AsmCode.TheVariants.{DefinedTwice, DoesNotFit, PlaceTooHigh}
-use Rattle.mac_layout.specs.Places.{are_apart, Labels, places_from}
+use Rattle.mac_layout.specs.declared.error.AsmCode.TheVariants.{DefinedTwice, DoesNotFit, AddressTooHigh}
+use Rattle.mac_layout.specs.Addresses.{are_apart, Labels, addresses_from}
 use Rattle.mac_layout.specs.Faults.{Fault, unless_fault, number_of, least, code_if, code_of}
 use Rattle.mac_layout.specs.LaidOut.{Layout, checked_count, checked_size, literal_size, with_labels, labels_code, statement_code, with_statement}
-use Rattle.mac_layout.specs.LaidOut.{line_code, with_line, laid_out, count_or, is_taken, places_in, taking, taking_size, taking_all}
+use Rattle.mac_layout.specs.LaidOut.{line_code, with_line, laid_out, count_or, is_taken, addresses_in, taking, taking_size, taking_all}
 use Rattle.mac_layout.specs.Layouts.{AreMarks, StandsFor, Lays, Defines, with_size}
 use Rattle.mac_text.specs.declared.syntax.SignedTerm.{SignedTerm}
 use Rattle.mac_text.specs.declared.syntax.Data.{Data}
@@ -25,35 +25,35 @@ use Rattle.mac_text.specs.declared.syntax.Statement.TheVariants as statements
 use Rattle.mac_text.specs.declared.syntax.Line.{Line}
 use Rattle.mac_layout.specs.declared.layout.Progress.{Progress}
 
-part_fits : (place first len count : ℕ) → len ≡ count → (place ≡ first) ⊎ (len ≡ 0) → range_with_len first len ≡ range_with_len place count
-part_fits place first len count e (inl same) = ap (λ p. range_with_len p len) (sym same) ∙ ap (range_with_len place) e
-part_fits place first len count e (inr none) = ap (range_with_len first) none ∙ ap (range_with_len place) (sym none ∙ e)
+part_fits : (address first len count : ℕ) → len ≡ count → (address ≡ first) ⊎ (len ≡ 0) → range_with_len first len ≡ range_with_len address count
+part_fits address first len count e (inl same) = ap (λ p. range_with_len p len) (sym same) ∙ ap (range_with_len address) e
+part_fits address first len count e (inr none) = ap (range_with_len first) none ∙ ap (range_with_len address) (sym none ∙ e)
 
-part_by : (place size first len : ℕ) (b : Bool) → first ≡ min place (2 ^ 18) → len ≡ min size (2 ^ 18 - first)
-    → nat_le size (2 ^ 18 - place) ≡ b
-    → range_with_len first len ≡ range_with_len place (cond b size (2 ^ 18 - place))
-part_by place size first len true f l e =
-    let at : (place ≡ first) ⊎ (len ≡ 0) = elim (leb_tells place (2 ^ 18)) [ inl h ↦ inl (omega (arith, h.1)) | inr h ↦ inr (omega (arith, h.1)) ] in
-    part_fits place first len size (grind (arith, nat_tests)) at
-part_by place size first len false f l e =
-    let at : (place ≡ first) ⊎ (len ≡ 0) = elim (leb_tells place (2 ^ 18)) [ inl h ↦ inl (omega (arith, h.1)) | inr h ↦ inr (omega (arith, h.1)) ] in
-    part_fits place first len (2 ^ 18 - place) (grind (arith, nat_tests)) at
+part_by : (address size first len : ℕ) (b : Bool) → first ≡ min address (2 ^ 18) → len ≡ min size (2 ^ 18 - first)
+    → nat_le size (2 ^ 18 - address) ≡ b
+    → range_with_len first len ≡ range_with_len address (cond b size (2 ^ 18 - address))
+part_by address size first len true f l e =
+    let at : (address ≡ first) ⊎ (len ≡ 0) = elim (leb_tells address (2 ^ 18)) [ inl h ↦ inl (omega (arith, h.1)) | inr h ↦ inr (omega (arith, h.1)) ] in
+    part_fits address first len size (grind (arith, nat_tests)) at
+part_by address size first len false f l e =
+    let at : (address ≡ first) ⊎ (len ≡ 0) = elim (leb_tells address (2 ^ 18)) [ inl h ↦ inl (omega (arith, h.1)) | inr h ↦ inr (omega (arith, h.1)) ] in
+    part_fits address first len (2 ^ 18 - address) (grind (arith, nat_tests)) at
 
--- of so many places from one on, those below 2 ^ 18
-pub part_is : (all place size first len : ℕ) → first ≡ min place all → len ≡ min size (all - first) → all ≡ 2 ^ 18
-    → range_with_len first len ≡ places_in place size
-part_is all place size first len f l a =
-    part_by place size first len (nat_le size (2 ^ 18 - place)) (f ∙ ap (min place) a) (l ∙ ap (λ n. min size (n - first)) a) refl
+-- of so many addresses from one on, those below 2 ^ 18
+pub part_is : (all address size first len : ℕ) → first ≡ min address all → len ≡ min size (all - first) → all ≡ 2 ^ 18
+    → range_with_len first len ≡ addresses_in address size
+part_is all address size first len f l a =
+    part_by address size first len (nat_le size (2 ^ 18 - address)) (f ∙ ap (min address) a) (l ∙ ap (λ n. min size (n - first)) a) refl
 
 -- whether they are all below
-pub room_is : (all place size first : ℕ) → first ≡ min place all → all ≡ 2 ^ 18
-    → not (nat_le size (all - first)) ≡ (not (size == 0) && not (nat_le (place + size) (2 ^ 18)))
-room_is all place size first f a = grind (arith, nat_tests)
+pub room_is : (all address size first : ℕ) → first ≡ min address all → all ≡ 2 ^ 18
+    → not (nat_le size (all - first)) ≡ (not (size == 0) && not (nat_le (address + size) (2 ^ 18)))
+room_is all address size first f a = grind (arith, nat_tests)
 
-pub no_room : (place size : ℕ) → 2 ^ 64 ≤ size → true ≡ (not (size == 0) && not (nat_le (place + size) (2 ^ 18)))
-no_room place size h = grind (arith, nat_tests)
+pub no_room : (address size : ℕ) → 2 ^ 64 ≤ size → true ≡ (not (size == 0) && not (nat_le (address + size) (2 ^ 18)))
+no_room address size h = grind (arith, nat_tests)
 
--- marks tell whether places are taken
+-- marks tell whether addresses are taken
 pub are_any_taken : (marks : List Bool) (past : List ℕ) → AreMarks marks past → (first n : ℕ) → first + n ≤ 2 ^ 18
     → list_any (λ m. m) (take n (drop first marks)) ≡ list_any (is_taken past) (range_with_len first n)
 are_any_taken marks past m first zero le = refl
@@ -76,7 +76,7 @@ is_nothing : {A : Type 0} (o : Option A) → is_some o ≡ false → o ≡ None
 is_nothing None h = refl
 is_nothing (Some x) h = absurd (cc)
 
-least_twice : (high : Bool) → least (Some DefinedTwice) (code_if high PlaceTooHigh) ≡ Some DefinedTwice
+least_twice : (high : Bool) → least (Some DefinedTwice) (code_if high AddressTooHigh) ≡ Some DefinedTwice
 unfolding least
 least_twice true = refl
 least_twice false = refl
@@ -86,38 +86,38 @@ unfolding least
 least_none None = refl
 least_none (Some code) = refl
 
-taking_by : (past : List ℕ) (place size : ℕ) (any high : Bool) → list_any (is_taken past) (places_in place size) ≡ any
-    → (not (size == 0) && not (nat_le (place + size) (2 ^ 18))) ≡ high
-    → taking past place size ≡ least (code_if any DefinedTwice) (code_if high PlaceTooHigh)
+taking_by : (past : List ℕ) (address size : ℕ) (any high : Bool) → list_any (is_taken past) (addresses_in address size) ≡ any
+    → (not (size == 0) && not (nat_le (address + size) (2 ^ 18))) ≡ high
+    → taking past address size ≡ least (code_if any DefinedTwice) (code_if high AddressTooHigh)
 unfolding taking
-taking_by past place size any high a h =
-    ap (λ b. least (code_if b DefinedTwice) (code_if (not (size == 0) && not (nat_le (place + size) (2 ^ 18))) PlaceTooHigh)) a
-    ∙ ap (λ b. least (code_if any DefinedTwice) (code_if b PlaceTooHigh)) h
+taking_by past address size any high a h =
+    ap (λ b. least (code_if b DefinedTwice) (code_if (not (size == 0) && not (nat_le (address + size) (2 ^ 18))) AddressTooHigh)) a
+    ∙ ap (λ b. least (code_if any DefinedTwice) (code_if b AddressTooHigh)) h
 
-any_of_part : (marks : List Bool) (past : List ℕ) (place size first len : ℕ) (any : Bool) → AreMarks marks past → first + len ≤ length marks
-    → (length marks ≡ 2 ^ 18 → range_with_len first len ≡ places_in place size) → any ≡ list_any (λ m. m) (between first (first + len) marks)
-    → list_any (is_taken past) (places_in place size) ≡ any
-any_of_part marks past place size first len any m within places is =
+any_of_part : (marks : List Bool) (past : List ℕ) (address size first len : ℕ) (any : Bool) → AreMarks marks past → first + len ≤ length marks
+    → (length marks ≡ 2 ^ 18 → range_with_len first len ≡ addresses_in address size) → any ≡ list_any (λ m. m) (between first (first + len) marks)
+    → list_any (is_taken past) (addresses_in address size) ≡ any
+any_of_part marks past address size first len any m within addresses is =
     let n : (first + len) - first ≡ len = omega arith in
-    ap (list_any (is_taken past)) (sym (places m.all))
+    ap (list_any (is_taken past)) (sym (addresses m.all))
     ∙ sym (are_any_taken marks past m first len (omega (arith, m.all)))
     ∙ sym (is ∙ ap (λ k. list_any (λ m. m) (take k (drop first marks))) n)
 
-pub taking_twice : (marks : List Bool) (past : List ℕ) (place size first len : ℕ) (any : Bool) → AreMarks marks past → first + len ≤ length marks
-    → (length marks ≡ 2 ^ 18 → range_with_len first len ≡ places_in place size) → any ≡ list_any (λ m. m) (between first (first + len) marks)
-    → any ≡ true → Some DefinedTwice ≡ taking past place size
-taking_twice marks past place size first len any m within places is e =
-    let high = not (size == 0) && not (nat_le (place + size) (2 ^ 18)) in
-    sym (least_twice high) ∙ sym (taking_by past place size true high (any_of_part marks past place size first len any m within places is ∙ e) refl)
+pub taking_twice : (marks : List Bool) (past : List ℕ) (address size first len : ℕ) (any : Bool) → AreMarks marks past → first + len ≤ length marks
+    → (length marks ≡ 2 ^ 18 → range_with_len first len ≡ addresses_in address size) → any ≡ list_any (λ m. m) (between first (first + len) marks)
+    → any ≡ true → Some DefinedTwice ≡ taking past address size
+taking_twice marks past address size first len any m within addresses is e =
+    let high = not (size == 0) && not (nat_le (address + size) (2 ^ 18)) in
+    sym (least_twice high) ∙ sym (taking_by past address size true high (any_of_part marks past address size first len any m within addresses is ∙ e) refl)
 
-pub taking_once : (marks : List Bool) (past : List ℕ) (place size first len : ℕ) (any high : Bool) → AreMarks marks past → first + len ≤ length marks
-    → (length marks ≡ 2 ^ 18 → range_with_len first len ≡ places_in place size) → any ≡ list_any (λ m. m) (between first (first + len) marks)
-    → any ≡ false → (length marks ≡ 2 ^ 18 → high ≡ (not (size == 0) && not (nat_le (place + size) (2 ^ 18))))
-    → code_if high PlaceTooHigh ≡ taking past place size
-taking_once marks past place size first len any high m within places is e h =
-    sym (least_none (code_if high PlaceTooHigh))
+pub taking_once : (marks : List Bool) (past : List ℕ) (address size first len : ℕ) (any high : Bool) → AreMarks marks past → first + len ≤ length marks
+    → (length marks ≡ 2 ^ 18 → range_with_len first len ≡ addresses_in address size) → any ≡ list_any (λ m. m) (between first (first + len) marks)
+    → any ≡ false → (length marks ≡ 2 ^ 18 → high ≡ (not (size == 0) && not (nat_le (address + size) (2 ^ 18))))
+    → code_if high AddressTooHigh ≡ taking past address size
+taking_once marks past address size first len any high m within addresses is e h =
+    sym (least_none (code_if high AddressTooHigh))
     ∙ sym
-    (taking_by past place size false high (any_of_part marks past place size first len any m within places is ∙ e)
+    (taking_by past address size false high (any_of_part marks past address size first len any m within addresses is ∙ e)
     (sym (h m.all)))
 
 -- which numbers stand in a range
@@ -199,12 +199,12 @@ marked_each marks part past first len p m within is lt =
     ]
 
 -- the marks where a part is marked
-pub marked : (marks part : List Bool) (past : List ℕ) (place size first len n : ℕ) → AreMarks marks past
+pub marked : (marks part : List Bool) (past : List ℕ) (address size first len n : ℕ) → AreMarks marks past
     → first + len ≤ length marks → n ≡ len
     → part ≡ replicate len true
-    → (length marks ≡ 2 ^ 18 → range_with_len first len ≡ places_in place size)
-    → AreMarks (take first marks ++ (part ++ drop n (drop first marks))) (past ++ places_in place size)
-marked marks part past place size first len n m within e is places =
+    → (length marks ≡ 2 ^ 18 → range_with_len first len ≡ addresses_in address size)
+    → AreMarks (take first marks ++ (part ++ drop n (drop first marks))) (past ++ addresses_in address size)
+marked marks part past address size first len n m within e is addresses =
     let k : length part ≡ len = ap length is ∙ length-replicate len true in
     let rest = drop len (drop first marks) in
     let new = take first marks ++ (part ++ rest) in
@@ -219,8 +219,8 @@ marked marks part past place size first len n m within e is places =
       length-drop first marks,
     ) in
     let each = λ (p : ℕ) (lt : p < 2 ^ 18). marked_each marks part past first len p m within is lt in
-    let R : ℕ → List ℕ → Type 0 = λ i places. AreMarks (take first marks ++ (part ++ drop i (drop first marks))) (past ++ places) in
-    subst (λ i. R i (places_in place size)) (sym e) (subst (R len) (places m.all) (record { all = all; each = each }))
+    let R : ℕ → List ℕ → Type 0 = λ i addresses. AreMarks (take first marks ++ (part ++ drop i (drop first marks))) (past ++ addresses) in
+    subst (λ i. R i (addresses_in address size)) (sym e) (subst (R len) (addresses m.all) (record { all = all; each = each }))
 
 -- a label that is given twice
 apart_twice : (name : ℕ) (front rest : List ℕ) → list_any (nat_eq name) front ≡ true → are_apart (front ++ name ∷ rest) ≡ false
@@ -252,31 +252,31 @@ apart_once name (k ∷ front) h new =
     ap (λ b. not b && are_apart (front ++ name ∷ [])) none ∙ ap (λ b. b && are_apart (front ++ name ∷ [])) parts.0 ∙ apart_once name front parts.1 kept.1
 
 abbrev own : ℕ → List ℕ → Labels
-own place names = map (λ name. (name, place)) names
+own address names = map (λ name. (name, address)) names
 
-keys_own : (place : ℕ) (names : List ℕ) → keys_of (own place names) ≡ names
-keys_own place [] = refl
-keys_own place (name ∷ names) = ap (λ l. name ∷ l) (keys_own place names)
+keys_own : (address : ℕ) (names : List ℕ) → keys_of (own address names) ≡ names
+keys_own address [] = refl
+keys_own address (name ∷ names) = ap (λ l. name ∷ l) (keys_own address names)
 
-pub keys_more : (labels : Labels) (place : ℕ) (names : List ℕ) → keys_of (labels ++ own place names) ≡ keys_of labels ++ names
-keys_more labels place names = map-append (λ e. e.0) labels (own place names) ∙ ap (λ l. keys_of labels ++ l) (keys_own place names)
+pub keys_more : (labels : Labels) (address : ℕ) (names : List ℕ) → keys_of (labels ++ own address names) ≡ keys_of labels ++ names
+keys_more labels address names = map-append (λ e. e.0) labels (own address names) ∙ ap (λ l. keys_of labels ++ l) (keys_own address names)
 
-insert_at : (name place : ℕ) (e : ℕ × ℕ) (labels : Labels) (b : Bool) → nat_eq name e.0 ≡ b → cond b (Some e.1) (lookup (nat_eq name) labels) ≡ None
-    → (lookup (nat_eq name) labels ≡ None → insert_entry nat_eq labels name place ≡ labels ++ (name, place) ∷ [])
-    → insert_entry nat_eq (e ∷ labels) name place ≡ e ∷ (labels ++ (name, place) ∷ [])
-insert_at name place e labels true is h more = absurd (cc)
-insert_at name place e labels false is h more =
-    ap (λ b. cond b ((e.0, place) ∷ labels) (e ∷ insert_entry nat_eq labels name place)) is ∙ ap (λ l. e ∷ l) (more h)
+insert_at : (name address : ℕ) (e : ℕ × ℕ) (labels : Labels) (b : Bool) → nat_eq name e.0 ≡ b → cond b (Some e.1) (lookup (nat_eq name) labels) ≡ None
+    → (lookup (nat_eq name) labels ≡ None → insert_entry nat_eq labels name address ≡ labels ++ (name, address) ∷ [])
+    → insert_entry nat_eq (e ∷ labels) name address ≡ e ∷ (labels ++ (name, address) ∷ [])
+insert_at name address e labels true is h more = absurd (cc)
+insert_at name address e labels false is h more =
+    ap (λ b. cond b ((e.0, address) ∷ labels) (e ∷ insert_entry nat_eq labels name address)) is ∙ ap (λ l. e ∷ l) (more h)
 
-insert_new : (labels : Labels) (name place : ℕ) → lookup (nat_eq name) labels ≡ None → insert_entry nat_eq labels name place ≡ labels ++ (name, place) ∷ []
-insert_new [] name place h = refl
-insert_new (e ∷ labels) name place h = insert_at name place e labels (nat_eq name e.0) refl h (insert_new labels name place)
+insert_new : (labels : Labels) (name address : ℕ) → lookup (nat_eq name) labels ≡ None → insert_entry nat_eq labels name address ≡ labels ++ (name, address) ∷ []
+insert_new [] name address h = refl
+insert_new (e ∷ labels) name address h = insert_at name address e labels (nat_eq name e.0) refl h (insert_new labels name address)
 
--- one of the labels has a place already
-pub define_fails : (old now : Labels) (names : List ℕ) (place i name d : ℕ) → i < length names → now ≡ old ++ own place (take i names)
+-- one of the labels has an address already
+pub define_fails : (old now : Labels) (names : List ℕ) (address i name d : ℕ) → i < length names → now ≡ old ++ own address (take i names)
     → name ≡ get_or names i d → is_some (lookup (nat_eq name) now) ≡ true → false ≡ are_apart (keys_of old ++ names)
-define_fails old now names place i name d lt so_far item h =
-    let keys : keys_of now ≡ keys_of old ++ take i names = ap keys_of so_far ∙ keys_more old place (take i names) in
+define_fails old now names address i name d lt so_far item h =
+    let keys : keys_of now ≡ keys_of old ++ take i names = ap keys_of so_far ∙ keys_more old address (take i names) in
     let parted : take i names ++ (name ∷ drop (i + 1) names) ≡ names =
     ap (λ l. take i names ++ l) (ap (λ n. n ∷ drop (i + 1) names) item ∙ sym (drop_more names i d lt))
     ∙ take-append-drop i names in
@@ -285,35 +285,35 @@ define_fails old now names place i name d lt so_far item h =
     sym (ap are_apart (sym all) ∙ apart_twice name (keys_of now) (drop (i + 1) names) (sym (is_some-lookup (nat_eq name) now) ∙ h))
 
 -- one label more
-pub define_more : (old now new : Labels) (names : List ℕ) (place i name d : ℕ) → i < length names → now ≡ old ++ own place (take i names)
-    → name ≡ get_or names i d → is_some (lookup (nat_eq name) now) ≡ false → new ≡ insert_entry nat_eq now name place
-    → new ≡ old ++ own place (take (i + 1) names)
-define_more old now new names place i name d lt so_far item h is =
-    is ∙ insert_new now name place (is_nothing (lookup (nat_eq name) now) h)
-    ∙ ap (λ l. l ++ (name, place) ∷ []) so_far ∙ append_assoc old (own place (take i names)) ((name, place) ∷ [])
+pub define_more : (old now new : Labels) (names : List ℕ) (address i name d : ℕ) → i < length names → now ≡ old ++ own address (take i names)
+    → name ≡ get_or names i d → is_some (lookup (nat_eq name) now) ≡ false → new ≡ insert_entry nat_eq now name address
+    → new ≡ old ++ own address (take (i + 1) names)
+define_more old now new names address i name d lt so_far item h is =
+    is ∙ insert_new now name address (is_nothing (lookup (nat_eq name) now) h)
+    ∙ ap (λ l. l ++ (name, address) ∷ []) so_far ∙ append_assoc old (own address (take i names)) ((name, address) ∷ [])
     ∙ ap (λ l. old ++ l)
-    (sym (map-append (λ n. (n, place)) (take i names) (name ∷ []))
-    ∙ ap (own place) (ap (λ n. take i names ++ n ∷ []) item ∙ sym (take_more names i d lt)))
+    (sym (map-append (λ n. (n, address)) (take i names) (name ∷ []))
+    ∙ ap (own address) (ap (λ n. take i names ++ n ∷ []) item ∙ sym (take_more names i d lt)))
 
-pub still_apart : (now new : Labels) (name place : ℕ) → is_some (lookup (nat_eq name) now) ≡ false → new ≡ insert_entry nat_eq now name place
+pub still_apart : (now new : Labels) (name address : ℕ) → is_some (lookup (nat_eq name) now) ≡ false → new ≡ insert_entry nat_eq now name address
     → are_apart (keys_of now) ≡ true → are_apart (keys_of new) ≡ true
-still_apart now new name place h is apart =
-    ap (λ l. are_apart (keys_of l)) (is ∙ insert_new now name place (is_nothing (lookup (nat_eq name) now) h))
-    ∙ ap are_apart (keys_more now place (name ∷ []))
+still_apart now new name address h is apart =
+    ap (λ l. are_apart (keys_of l)) (is ∙ insert_new now name address (is_nothing (lookup (nat_eq name) now) h))
+    ∙ ap are_apart (keys_more now address (name ∷ []))
     ∙ apart_once name (keys_of now) apart (sym (is_some-lookup (nat_eq name) now) ∙ h)
 
-pub define_done : (old now : Labels) (names : List ℕ) (place i : ℕ) → length names ≤ i → now ≡ old ++ own place (take i names)
-    → now ≡ old ++ own place names
-define_done old now names place i ge so_far = so_far ∙ ap (λ l. old ++ own place l) (take_all i names ge)
+pub define_done : (old now : Labels) (names : List ℕ) (address i : ℕ) → length names ≤ i → now ≡ old ++ own address (take i names)
+    → now ≡ old ++ own address names
+define_done old now names address i ge so_far = so_far ∙ ap (λ l. old ++ own address l) (take_all i names ge)
 
--- no place is taken yet
+-- no address is taken yet
 pub unmarked_all : (marks : List Bool) (n : ℕ) → n ≡ 2 ^ 18 → marks ≡ replicate n false → AreMarks marks []
 unmarked_all marks n all is = record {
   all = ap length is ∙ length-replicate n false ∙ all;
-  each = λ place lt. ap (λ l. get_or l place false) is ∙ get_or-replicate n place false false (omega arith);
+  each = λ address lt. ap (λ l. get_or l address false) is ∙ get_or-replicate n address false false (omega arith);
 }
 
--- what is taken from a place on settles what is wrong from there on
+-- what is taken from an address on settles what is wrong from there on
 any_same : (a b : List ℕ) (first n : ℕ) → ((q : ℕ) → first ≤ q → is_taken a q ≡ is_taken b q)
     → list_any (is_taken a) (range_with_len first n) ≡ list_any (is_taken b) (range_with_len first n)
 any_same a b first zero same = refl
@@ -321,41 +321,41 @@ any_same a b first (suc n) same =
     ap (λ x. x || list_any (is_taken a) (range_with_len (first + 1) n)) (same first (omega arith))
     ∙ ap (λ x. is_taken b first || x) (any_same a b (first + 1) n (λ q ge. same q (omega arith)))
 
-taking_same : (a b : List ℕ) (place size : ℕ) → ((q : ℕ) → place ≤ q → is_taken a q ≡ is_taken b q) → taking a place size ≡ taking b place size
+taking_same : (a b : List ℕ) (address size : ℕ) → ((q : ℕ) → address ≤ q → is_taken a q ≡ is_taken b q) → taking a address size ≡ taking b address size
 unfolding taking
-taking_same a b place size same =
-    ap (λ x. least (code_if x DefinedTwice) (code_if (not (size == 0) && not (nat_le (place + size) (2 ^ 18))) PlaceTooHigh))
-    (any_same a b place (cond (nat_le size (2 ^ 18 - place)) size (2 ^ 18 - place)) same)
+taking_same a b address size same =
+    ap (λ x. least (code_if x DefinedTwice) (code_if (not (size == 0) && not (nat_le (address + size) (2 ^ 18))) AddressTooHigh))
+    (any_same a b address (cond (nat_le size (2 ^ 18 - address)) size (2 ^ 18 - address)) same)
 
-size_same : (a b : List ℕ) (place : ℕ) (size : Result ℕ AsmCode) → ((q : ℕ) → place ≤ q → is_taken a q ≡ is_taken b q)
-    → taking_size a place size ≡ taking_size b place size
-size_same a b place (Ok size) same = taking_same a b place size same
-size_same a b place (Err code) same = refl
+size_same : (a b : List ℕ) (address : ℕ) (size : Result ℕ AsmCode) → ((q : ℕ) → address ≤ q → is_taken a q ≡ is_taken b q)
+    → taking_size a address size ≡ taking_size b address size
+size_same a b address (Ok size) same = taking_same a b address size same
+size_same a b address (Err code) same = refl
 
--- the literals stand one behind the other, so none takes a place of another
+-- the literals stand one behind the other, so none takes an address of another
 abbrev pub all_apart : List ℕ → ℕ → List (Result ℕ AsmCode) → Option AsmCode
-all_apart taken place [] = None
-all_apart taken place (size ∷ sizes) = least (taking_size taken place size) (all_apart taken (place + count_or 0 size) sizes)
+all_apart taken address [] = None
+all_apart taken address (size ∷ sizes) = least (taking_size taken address size) (all_apart taken (address + count_or 0 size) sizes)
 
-behind : (taken : List ℕ) (place size q : ℕ) → place + size ≤ q → is_taken (taken ++ places_in place size) q ≡ is_taken taken q
-behind taken place size q ge =
-    let few : cond (nat_le size (2 ^ 18 - place)) size (2 ^ 18 - place) ≤ size = grind (arith, nat_tests) in
-    taken_more taken (places_in place size) q false
-    (range_below q place (cond (nat_le size (2 ^ 18 - place)) size (2 ^ 18 - place)) (omega arith))
+behind : (taken : List ℕ) (address size q : ℕ) → address + size ≤ q → is_taken (taken ++ addresses_in address size) q ≡ is_taken taken q
+behind taken address size q ge =
+    let few : cond (nat_le size (2 ^ 18 - address)) size (2 ^ 18 - address) ≤ size = grind (arith, nat_tests) in
+    taken_more taken (addresses_in address size) q false
+    (range_below q address (cond (nat_le size (2 ^ 18 - address)) size (2 ^ 18 - address)) (omega arith))
     ∙ or_false (is_taken taken q)
 
-all_same : (sizes : List (Result ℕ AsmCode)) (a b : List ℕ) (place : ℕ) → ((q : ℕ) → place ≤ q → is_taken a q ≡ is_taken b q)
-    → all_apart b place sizes ≡ taking_all a place sizes
+all_same : (sizes : List (Result ℕ AsmCode)) (a b : List ℕ) (address : ℕ) → ((q : ℕ) → address ≤ q → is_taken a q ≡ is_taken b q)
+    → all_apart b address sizes ≡ taking_all a address sizes
 unfolding taking_all
-all_same [] a b place same = refl
-all_same (size ∷ sizes) a b place same =
+all_same [] a b address same = refl
+all_same (size ∷ sizes) a b address same =
     let more =
-    all_same sizes (a ++ places_in place (count_or 0 size)) b (place + count_or 0 size)
-    (λ q ge. behind a place (count_or 0 size) q ge ∙ same q (omega arith)) in
-    ap (λ c. least c (all_apart b (place + count_or 0 size) sizes)) (sym (size_same a b place size same)) ∙ ap (least (taking_size a place size)) more
+    all_same sizes (a ++ addresses_in address (count_or 0 size)) b (address + count_or 0 size)
+    (λ q ge. behind a address (count_or 0 size) q ge ∙ same q (omega arith)) in
+    ap (λ c. least c (all_apart b (address + count_or 0 size) sizes)) (sym (size_same a b address size same)) ∙ ap (least (taking_size a address size)) more
 
-pub all_apart_is : (taken : List ℕ) (place : ℕ) (sizes : List (Result ℕ AsmCode)) → all_apart taken place sizes ≡ taking_all taken place sizes
-all_apart_is taken place sizes = all_same sizes taken taken place (λ q ge. refl)
+pub all_apart_is : (taken : List ℕ) (address : ℕ) (sizes : List (Result ℕ AsmCode)) → all_apart taken address sizes ≡ taking_all taken address sizes
+all_apart_is taken address sizes = all_same sizes taken taken address (λ q ge. refl)
 
 least_code : AsmCode → AsmCode → AsmCode
 least_code a b = cond (nat_le (number_of a) (number_of b)) a b
@@ -386,60 +386,60 @@ three a b c false true false e f g = rw (e, f, e) refl
 three a b c false false true e f g = absurd (grind (arith, nat_tests))
 three a b c false false false e f g = rw (e, f, g) refl
 
--- the place of one word
-no_places : (place : ℕ) → 2 ^ 18 ≤ place → places_in place 1 ≡ []
-no_places place le =
-    let no : nat_le 1 (2 ^ 18 - place) ≡ false = grind (arith, nat_tests) in
-    let k : 2 ^ 18 - place ≡ 0 = omega arith in
-    ap (λ b. range_with_len place (cond b 1 (2 ^ 18 - place))) no ∙ ap (range_with_len place) k
+-- the address of one word
+no_addresses : (address : ℕ) → 2 ^ 18 ≤ address → addresses_in address 1 ≡ []
+no_addresses address le =
+    let no : nat_le 1 (2 ^ 18 - address) ≡ false = grind (arith, nat_tests) in
+    let k : 2 ^ 18 - address ≡ 0 = omega arith in
+    ap (λ b. range_with_len address (cond b 1 (2 ^ 18 - address))) no ∙ ap (range_with_len address) k
 
-own_place : (place : ℕ) → place < 2 ^ 18 → places_in place 1 ≡ place ∷ []
-own_place place lt =
-    let yes : nat_le 1 (2 ^ 18 - place) ≡ true = grind (arith, nat_tests) in
-    ap (λ b. range_with_len place (cond b 1 (2 ^ 18 - place))) yes
+own_address : (address : ℕ) → address < 2 ^ 18 → addresses_in address 1 ≡ address ∷ []
+own_address address lt =
+    let yes : nat_le 1 (2 ^ 18 - address) ≡ true = grind (arith, nat_tests) in
+    ap (λ b. range_with_len address (cond b 1 (2 ^ 18 - address))) yes
 
-pub one_high : (past : List ℕ) (place : ℕ) → 2 ^ 18 ≤ place → Some PlaceTooHigh ≡ taking past place 1
-one_high past place le =
-    let none : places_in place 1 ≡ [] = no_places place le in
-    let high : (not (1 == 0) && not (nat_le (place + 1) (2 ^ 18))) ≡ true = grind (arith, nat_tests) in
-    sym (taking_by past place 1 false true (ap (list_any (is_taken past)) none) high ∙ least_none (Some PlaceTooHigh))
+pub one_high : (past : List ℕ) (address : ℕ) → 2 ^ 18 ≤ address → Some AddressTooHigh ≡ taking past address 1
+one_high past address le =
+    let none : addresses_in address 1 ≡ [] = no_addresses address le in
+    let high : (not (1 == 0) && not (nat_le (address + 1) (2 ^ 18))) ≡ true = grind (arith, nat_tests) in
+    sym (taking_by past address 1 false true (ap (list_any (is_taken past)) none) high ∙ least_none (Some AddressTooHigh))
 
-pub high_marks : (marks : List Bool) (past : List ℕ) (place : ℕ) → 2 ^ 18 ≤ place → AreMarks marks past → AreMarks marks (past ++ places_in place 1)
-high_marks marks past place le m = subst (AreMarks marks) (sym (ap (λ l. past ++ l) (no_places place le) ∙ append-nil past)) m
+pub high_marks : (marks : List Bool) (past : List ℕ) (address : ℕ) → 2 ^ 18 ≤ address → AreMarks marks past → AreMarks marks (past ++ addresses_in address 1)
+high_marks marks past address le m = subst (AreMarks marks) (sym (ap (λ l. past ++ l) (no_addresses address le) ∙ append-nil past)) m
 
-pub one_low : (marks : List Bool) (past : List ℕ) (at place : ℕ) (twice : Bool) → at ≡ min place (length marks) → (at ≡ length marks → ⊥) → AreMarks marks past
-    → get_or marks at false ≡ twice → code_if twice DefinedTwice ≡ taking past place 1
-one_low marks past at place twice clamped within m is =
-    let same : at ≡ place = omega arith in
-    let lt : place < 2 ^ 18 = omega (arith, m.all) in
-    let low : (not (1 == 0) && not (nat_le (place + 1) (2 ^ 18))) ≡ false = grind (arith, nat_tests) in
-    let any : list_any (is_taken past) (places_in place 1) ≡ twice =
-    ap (list_any (is_taken past)) (own_place place lt) ∙ or_false (is_taken past place) ∙ sym (m.each place lt)
+pub one_low : (marks : List Bool) (past : List ℕ) (at address : ℕ) (twice : Bool) → at ≡ min address (length marks) → (at ≡ length marks → ⊥) → AreMarks marks past
+    → get_or marks at false ≡ twice → code_if twice DefinedTwice ≡ taking past address 1
+one_low marks past at address twice clamped within m is =
+    let same : at ≡ address = omega arith in
+    let lt : address < 2 ^ 18 = omega (arith, m.all) in
+    let low : (not (1 == 0) && not (nat_le (address + 1) (2 ^ 18))) ≡ false = grind (arith, nat_tests) in
+    let any : list_any (is_taken past) (addresses_in address 1) ≡ twice =
+    ap (list_any (is_taken past)) (own_address address lt) ∙ or_false (is_taken past address) ∙ sym (m.each address lt)
     ∙ sym (ap (λ p. get_or marks p false) same) ∙ is in
-    sym (taking_by past place 1 twice false any low ∙ code_least_none (code_if twice DefinedTwice))
+    sym (taking_by past address 1 twice false any low ∙ code_least_none (code_if twice DefinedTwice))
 
-set_each : (marks : List Bool) (past : List ℕ) (place p : ℕ) → place < 2 ^ 18 → p < 2 ^ 18 → AreMarks marks past
-    → get_or (set marks place true) p false ≡ is_taken (past ++ place ∷ []) p
-set_each marks past place p lt below m =
-    elim (eqb_tells p place) [
-      | inl e ↦ (let same : p ≡ place = e.1 in
-          let yes : nat_eq p place ≡ true = grind (arith, nat_tests, e.1) in
-          ap (λ q. get_or (set marks place true) q false) same ∙ get_or-set_same marks place true false (omega (arith, m.all))
-          ∙ sym (taken_more past (place ∷ []) p true (ap (λ b. b || false) yes) ∙ or_true (is_taken past p)))
-      | inr e ↦ (let no : nat_eq p place ≡ false = e.0 in
-          get_or-set_other marks place p true false (λ h. e.1 h) ∙ m.each p below
-          ∙ sym (taken_more past (place ∷ []) p false (ap (λ b. b || false) no) ∙ or_false (is_taken past p)))
+set_each : (marks : List Bool) (past : List ℕ) (address p : ℕ) → address < 2 ^ 18 → p < 2 ^ 18 → AreMarks marks past
+    → get_or (set marks address true) p false ≡ is_taken (past ++ address ∷ []) p
+set_each marks past address p lt below m =
+    elim (eqb_tells p address) [
+      | inl e ↦ (let same : p ≡ address = e.1 in
+          let yes : nat_eq p address ≡ true = grind (arith, nat_tests, e.1) in
+          ap (λ q. get_or (set marks address true) q false) same ∙ get_or-set_same marks address true false (omega (arith, m.all))
+          ∙ sym (taken_more past (address ∷ []) p true (ap (λ b. b || false) yes) ∙ or_true (is_taken past p)))
+      | inr e ↦ (let no : nat_eq p address ≡ false = e.0 in
+          get_or-set_other marks address p true false (λ h. e.1 h) ∙ m.each p below
+          ∙ sym (taken_more past (address ∷ []) p false (ap (λ b. b || false) no) ∙ or_false (is_taken past p)))
     ]
 
-pub low_marks : (marks : List Bool) (past : List ℕ) (at place : ℕ) → at ≡ min place (length marks) → (at ≡ length marks → ⊥) → AreMarks marks past
-    → AreMarks (set marks at true) (past ++ places_in place 1)
-low_marks marks past at place clamped within m =
-    let same : place ≡ at = omega arith in
-    let lt : place < 2 ^ 18 = omega (arith, m.all) in
-    subst (λ p. AreMarks (set marks p true) (past ++ places_in place 1)) same
-    (subst (λ l. AreMarks (set marks place true) (past ++ l)) (sym (own_place place lt)) (record {
-      all = length-set marks place true ∙ m.all;
-      each = λ p below. set_each marks past place p lt below m;
+pub low_marks : (marks : List Bool) (past : List ℕ) (at address : ℕ) → at ≡ min address (length marks) → (at ≡ length marks → ⊥) → AreMarks marks past
+    → AreMarks (set marks at true) (past ++ addresses_in address 1)
+low_marks marks past at address clamped within m =
+    let same : address ≡ at = omega arith in
+    let lt : address < 2 ^ 18 = omega (arith, m.all) in
+    subst (λ p. AreMarks (set marks p true) (past ++ addresses_in address 1)) same
+    (subst (λ l. AreMarks (set marks address true) (past ++ l)) (sym (own_address address lt)) (record {
+      all = length-set marks address true ∙ m.all;
+      each = λ p below. set_each marks past address p lt below m;
     }))
 
 pub least_assoc : (a b c : Option AsmCode) → least (least a b) c ≡ least a (least b c)
@@ -465,75 +465,75 @@ literals_more past code next at at' sizes i size d total lt item n a so_far =
     ∙ ap (λ l. least code (all_apart past at l)) (ap (λ x. x ∷ drop (i + 1) sizes) item ∙ sym (drop_more sizes i d lt))
     ∙ so_far
 
-pub literals_end : (past : List ℕ) (code : Option AsmCode) (at place : ℕ) (sizes : List (Result ℕ AsmCode)) (i : ℕ) → length sizes ≤ i
-    → least code (all_apart past at (drop i sizes)) ≡ all_apart past place sizes → code ≡ taking_all past place sizes
-literals_end past code at place sizes i ge so_far =
-    sym (code_least_none code) ∙ sym (at_drop_all (λ l. least code (all_apart past at l)) sizes i ge) ∙ so_far ∙ all_apart_is past place sizes
+pub literals_end : (past : List ℕ) (code : Option AsmCode) (at address : ℕ) (sizes : List (Result ℕ AsmCode)) (i : ℕ) → length sizes ≤ i
+    → least code (all_apart past at (drop i sizes)) ≡ all_apart past address sizes → code ≡ taking_all past address sizes
+literals_end past code at address sizes i ge so_far =
+    sym (code_least_none code) ∙ sym (at_drop_all (λ l. least code (all_apart past at l)) sizes i ge) ∙ so_far ∙ all_apart_is past address sizes
 
--- the place of one literal more
-abbrev pub places_with : List ℕ → ℕ → List (Result ℕ AsmCode) → List ℕ
-places_with front at sizes = front ++ places_from at (map (count_or 0) sizes)
+-- the address of one literal more
+abbrev pub addresses_with : List ℕ → ℕ → List (Result ℕ AsmCode) → List ℕ
+addresses_with front at sizes = front ++ addresses_from at (map (count_or 0) sizes)
 
-places_cons : (at : ℕ) (size : Result ℕ AsmCode) (sizes : List (Result ℕ AsmCode))
-    → places_from at (map (count_or 0) (size ∷ sizes)) ≡ at ∷ places_from (at + count_or 0 size) (map (count_or 0) sizes)
-unfolding places_from
-places_cons at size sizes = refl
+addresses_cons : (at : ℕ) (size : Result ℕ AsmCode) (sizes : List (Result ℕ AsmCode))
+    → addresses_from at (map (count_or 0) (size ∷ sizes)) ≡ at ∷ addresses_from (at + count_or 0 size) (map (count_or 0) sizes)
+unfolding addresses_from
+addresses_cons at size sizes = refl
 
-pub places_more : (front new : List ℕ) (at at' : ℕ) (sizes : List (Result ℕ AsmCode)) (i : ℕ) (size d : Result ℕ AsmCode) (total : List ℕ) → i < length sizes
+pub addresses_more : (front new : List ℕ) (at at' : ℕ) (sizes : List (Result ℕ AsmCode)) (i : ℕ) (size d : Result ℕ AsmCode) (total : List ℕ) → i < length sizes
     → size ≡ get_or sizes i d → new ≡ front ++ at ∷ [] → at' ≡ at + count_or 0 size
-    → places_with front at (drop i sizes) ≡ total → places_with new at' (drop (i + 1) sizes) ≡ total
-places_more front new at at' sizes i size d total lt item n a so_far =
-    ap (λ x. places_with new x (drop (i + 1) sizes)) a
-    ∙ ap (λ l. places_with l (at + count_or 0 size) (drop (i + 1) sizes)) n
-    ∙ append_assoc front (at ∷ []) (places_from (at + count_or 0 size) (map (count_or 0) (drop (i + 1) sizes)))
-    ∙ ap (λ l. front ++ l) (sym (places_cons at size (drop (i + 1) sizes)))
-    ∙ ap (places_with front at) (ap (λ x. x ∷ drop (i + 1) sizes) item ∙ sym (drop_more sizes i d lt))
+    → addresses_with front at (drop i sizes) ≡ total → addresses_with new at' (drop (i + 1) sizes) ≡ total
+addresses_more front new at at' sizes i size d total lt item n a so_far =
+    ap (λ x. addresses_with new x (drop (i + 1) sizes)) a
+    ∙ ap (λ l. addresses_with l (at + count_or 0 size) (drop (i + 1) sizes)) n
+    ∙ append_assoc front (at ∷ []) (addresses_from (at + count_or 0 size) (map (count_or 0) (drop (i + 1) sizes)))
+    ∙ ap (λ l. front ++ l) (sym (addresses_cons at size (drop (i + 1) sizes)))
+    ∙ ap (addresses_with front at) (ap (λ x. x ∷ drop (i + 1) sizes) item ∙ sym (drop_more sizes i d lt))
     ∙ so_far
 
-places_none : (at : ℕ) → places_from at [] ≡ []
-unfolding places_from
-places_none at = refl
+addresses_none : (at : ℕ) → addresses_from at [] ≡ []
+unfolding addresses_from
+addresses_none at = refl
 
-pub places_end : (front : List ℕ) (at : ℕ) (sizes : List (Result ℕ AsmCode)) (i : ℕ) (total : List ℕ) → length sizes ≤ i
-    → places_with front at (drop i sizes) ≡ total → front ≡ total
-places_end front at sizes i total ge so_far =
-    sym (append-nil front) ∙ ap (λ l. front ++ l) (sym (places_none at)) ∙ sym (at_drop_all (places_with front at) sizes i ge) ∙ so_far
+pub addresses_end : (front : List ℕ) (at : ℕ) (sizes : List (Result ℕ AsmCode)) (i : ℕ) (total : List ℕ) → length sizes ≤ i
+    → addresses_with front at (drop i sizes) ≡ total → front ≡ total
+addresses_end front at sizes i total ge so_far =
+    sym (append-nil front) ∙ ap (λ l. front ++ l) (sym (addresses_none at)) ∙ sym (at_drop_all (addresses_with front at) sizes i ge) ∙ so_far
 
-pub literals_begin : (past : List ℕ) (at place : ℕ) (sizes : List (Result ℕ AsmCode)) → at ≡ place
-    → least None (all_apart past at (drop 0 sizes)) ≡ all_apart past place sizes
-literals_begin past at place sizes is = least_none (all_apart past at (drop 0 sizes)) ∙ ap (λ a. all_apart past a sizes) is
+pub literals_begin : (past : List ℕ) (at address : ℕ) (sizes : List (Result ℕ AsmCode)) → at ≡ address
+    → least None (all_apart past at (drop 0 sizes)) ≡ all_apart past address sizes
+literals_begin past at address sizes is = least_none (all_apart past at (drop 0 sizes)) ∙ ap (λ a. all_apart past a sizes) is
 
 -- a line whose labels are new
 pub with_labels_stands : (p q : Progress) (s : Layout) (line : Line) → StandsFor p s → are_apart (keys_of s.labels ++ line.labels) ≡ true
-    → q.labels.entries ≡ p.labels.entries ++ own p.place line.labels → q.place ≡ p.place → q.places.items ≡ p.places.items ++ p.place ∷ []
-    → q.taken.items ≡ p.taken.items → q.sizes.items ≡ p.sizes.items ++ map (literal_size q.labels.entries p.place) line.literals
+    → q.labels.entries ≡ p.labels.entries ++ own p.address line.labels → q.address ≡ p.address → q.addresses.items ≡ p.addresses.items ++ p.address ∷ []
+    → q.taken.items ≡ p.taken.items → q.sizes.items ≡ p.sizes.items ++ map (literal_size q.labels.entries p.address) line.literals
     → StandsFor q (with_labels s line)
 unfolding with_labels
-with_labels_stands p q s line m apart labels place places taken sizes =
-    let all : q.labels.entries ≡ s.labels ++ own s.place line.labels =
-    labels ∙ ap (λ l. l ++ own p.place line.labels) m.labels ∙ ap (λ n. s.labels ++ own n line.labels) m.place in
+with_labels_stands p q s line m apart labels address addresses taken sizes =
+    let all : q.labels.entries ≡ s.labels ++ own s.address line.labels =
+    labels ∙ ap (λ l. l ++ own p.address line.labels) m.labels ∙ ap (λ n. s.labels ++ own n line.labels) m.address in
     record {
       labels = all;
-      apart = ap are_apart (keys_more s.labels s.place line.labels) ∙ apart;
-      place = place ∙ m.place;
-      places = places ∙ ap (λ l. l ++ p.place ∷ []) m.places ∙ ap (λ n. s.places ++ n ∷ []) m.place;
+      apart = ap are_apart (keys_more s.labels s.address line.labels) ∙ apart;
+      address = address ∙ m.address;
+      addresses = addresses ∙ ap (λ l. l ++ p.address ∷ []) m.addresses ∙ ap (λ n. s.addresses ++ n ∷ []) m.address;
       taken = subst (λ l. AreMarks l s.taken) (sym taken) m.taken;
-      sizes = sizes ∙ ap (λ l. l ++ map (literal_size q.labels.entries p.place) line.literals) m.sizes
-          ∙ ap (λ l. s.sizes ++ map (literal_size l p.place) line.literals) all
-          ∙ ap (λ n. s.sizes ++ map (literal_size (s.labels ++ own s.place line.labels) n) line.literals) m.place;
+      sizes = sizes ∙ ap (λ l. l ++ map (literal_size q.labels.entries p.address) line.literals) m.sizes
+          ∙ ap (λ l. s.sizes ++ map (literal_size l p.address) line.literals) all
+          ∙ ap (λ n. s.sizes ++ map (literal_size (s.labels ++ own s.address line.labels) n) line.literals) m.address;
     }
 
 -- a statement of a size
-pub with_size_stands : (p q : Progress) (s : Layout) (words : ℕ) → StandsFor p s → q.labels.entries ≡ p.labels.entries → q.place ≡ p.place + words
-    → q.places.items ≡ p.places.items → AreMarks q.taken.items (s.taken ++ places_in p.place words)
+pub with_size_stands : (p q : Progress) (s : Layout) (words : ℕ) → StandsFor p s → q.labels.entries ≡ p.labels.entries → q.address ≡ p.address + words
+    → q.addresses.items ≡ p.addresses.items → AreMarks q.taken.items (s.taken ++ addresses_in p.address words)
     → q.sizes.items ≡ p.sizes.items
     → StandsFor q (with_size s (Ok words))
-with_size_stands p q s words m labels place places taken sizes = record {
+with_size_stands p q s words m labels address addresses taken sizes = record {
   labels = labels ∙ m.labels;
   apart = m.apart;
-  place = place ∙ ap (λ n. n + words) m.place;
-  places = places ∙ m.places;
-  taken = subst (λ n. AreMarks q.taken.items (s.taken ++ places_in n words)) m.place taken;
+  address = address ∙ ap (λ n. n + words) m.address;
+  addresses = addresses ∙ m.addresses;
+  taken = subst (λ n. AreMarks q.taken.items (s.taken ++ addresses_in n words)) m.address taken;
   sizes = sizes ∙ m.sizes;
 }
 
@@ -545,53 +545,53 @@ pub if_ok_more : {T E : Type 0} (P Q : T → Type 0) → ((x : T) → P x → Q 
 if_ok_more P Q f (Ok x) h = f x h
 if_ok_more P Q f (Err e) h = tt
 
--- a statement that takes no place
-stands_still : (p : Progress) (s : Layout) → StandsFor p s → StandsFor p (record s { place = s.place; taken = s.taken ++ [] })
+-- a statement that takes no address
+stands_still : (p : Progress) (s : Layout) → StandsFor p s → StandsFor p (record s { address = s.address; taken = s.taken ++ [] })
 stands_still p s m = record {
   labels = m.labels;
   apart = m.apart;
-  place = m.place;
-  places = m.places;
+  address = m.address;
+  addresses = m.addresses;
   taken = subst (AreMarks p.taken.items) (sym (append-nil s.taken)) m.taken;
   sizes = m.sizes;
 }
 
 pub lays_data : (p q : Progress) (st : Option Statement) (given : Data) (size : Result ℕ AsmCode) (code : Option AsmCode)
     → st ≡ Some (statements.Data given)
-    → size ≡ checked_size p.labels.entries p.place given
-    → Lays p q (λ s. taking_size s.taken s.place size) (λ s. with_size s size) code → Lays p q (λ s. statement_code s st) (λ s. with_statement s st) code
+    → size ≡ checked_size p.labels.entries p.address given
+    → Lays p q (λ s. taking_size s.taken s.address size) (λ s. with_size s size) code → Lays p q (λ s. statement_code s st) (λ s. with_statement s st) code
 unfolding statement_code with_statement
 lays_data p q st given size code is sized h = λ s m.
-    let measured : size ≡ checked_size s.labels s.place given =
-    sized ∙ ap (λ l. checked_size l p.place given) m.labels ∙ ap (λ n. checked_size s.labels n given) m.place in
+    let measured : size ≡ checked_size s.labels s.address given =
+    sized ∙ ap (λ l. checked_size l p.address given) m.labels ∙ ap (λ n. checked_size s.labels n given) m.address in
     let R : Option Statement → Type 0 = λ t. (code ≡ statement_code s t) × (code ≡ None → StandsFor q (with_statement s t)) in
-    let S : Result ℕ AsmCode → Type 0 = λ z. (code ≡ taking_size s.taken s.place z) × (code ≡ None → StandsFor q (with_size s z)) in
+    let S : Result ℕ AsmCode → Type 0 = λ z. (code ≡ taking_size s.taken s.address z) × (code ≡ None → StandsFor q (with_size s z)) in
     subst R (sym is) (subst S measured (h s m))
 
 counted : (p : Progress) (s : Layout) (e : List SignedTerm) (r : Result ℕ AsmCode) → StandsFor p s
-    → r ≡ checked_count p.labels.entries p.place e
-    → r ≡ checked_count s.labels s.place e
-counted p s e r m is = is ∙ ap (λ l. checked_count l p.place e) m.labels ∙ ap (λ n. checked_count s.labels n e) m.place
+    → r ≡ checked_count p.labels.entries p.address e
+    → r ≡ checked_count s.labels s.address e
+counted p s e r m is = is ∙ ap (λ l. checked_count l p.address e) m.labels ∙ ap (λ n. checked_count s.labels n e) m.address
 
 pub lays_loc_not : (p q : Progress) (st : Option Statement) (e : List SignedTerm) (code : AsmCode) → st ≡ Some (statements.Loc e)
-    → Err code ≡ checked_count p.labels.entries p.place e
+    → Err code ≡ checked_count p.labels.entries p.address e
     → Lays p q (λ s. statement_code s st) (λ s. with_statement s st) (Some code)
 unfolding statement_code
 lays_loc_not p q st e code is wrong = λ s m.
     (ap code_of (counted p s e (Err code) m wrong) ∙ sym (ap (statement_code s) is), λ h. absurd (cc))
 
 pub lays_loc : (p q : Progress) (st : Option Statement) (e : List SignedTerm) (n : ℕ) → st ≡ Some (statements.Loc e)
-    → Ok n ≡ checked_count p.labels.entries p.place e
-    → q.labels.entries ≡ p.labels.entries → q.place ≡ n → q.places.items ≡ p.places.items → q.taken.items ≡ p.taken.items → q.sizes.items ≡ p.sizes.items
+    → Ok n ≡ checked_count p.labels.entries p.address e
+    → q.labels.entries ≡ p.labels.entries → q.address ≡ n → q.addresses.items ≡ p.addresses.items → q.taken.items ≡ p.taken.items → q.sizes.items ≡ p.sizes.items
     → Lays p q (λ s. statement_code s st) (λ s. with_statement s st) None
 unfolding statement_code with_statement
-lays_loc p q st e n is right labels place places taken sizes = λ s m.
+lays_loc p q st e n is right labels address addresses taken sizes = λ s m.
     let counts = counted p s e (Ok n) m right in
     let next : StandsFor q (with_statement s (Some (statements.Loc e))) = record {
       labels = labels ∙ m.labels;
       apart = m.apart;
-      place = place ∙ ap (count_or s.place) counts;
-      places = places ∙ m.places;
+      address = address ∙ ap (count_or s.address) counts;
+      addresses = addresses ∙ m.addresses;
       taken = subst (AreMarks q.taken.items) (sym (append-nil s.taken)) (subst (λ l. AreMarks l s.taken) (sym taken) m.taken);
       sizes = sizes ∙ m.sizes;
     } in
@@ -605,11 +605,11 @@ lays_radix p st n code is h = λ s m.
     (h ∙ sym (ap (statement_code s) is), λ _. subst (λ t. StandsFor p (with_statement s t)) (sym is) (stands_still p s m))
 
 pub lays_end : (p : Progress) (st : Option Statement) (start : Option (List SignedTerm)) (code : Option AsmCode) → st ≡ Some (statements.End start)
-    → ((past : List ℕ) → AreMarks p.taken.items past → code ≡ taking_all past p.place p.sizes.items)
+    → ((past : List ℕ) → AreMarks p.taken.items past → code ≡ taking_all past p.address p.sizes.items)
     → Lays p p (λ s. statement_code s st) (λ s. with_statement s st) code
 unfolding statement_code with_statement
 lays_end p st start code is h = λ s m. (
-  h s.taken m.taken ∙ ap (λ n. taking_all s.taken n p.sizes.items) m.place ∙ ap (taking_all s.taken s.place) m.sizes ∙ sym (ap (statement_code s) is),
+  h s.taken m.taken ∙ ap (λ n. taking_all s.taken n p.sizes.items) m.address ∙ ap (taking_all s.taken s.address) m.sizes ∙ sym (ap (statement_code s) is),
   λ _. subst (λ t. StandsFor p (with_statement s t)) (sym is) (stands_still p s m),
 )
 
@@ -623,7 +623,7 @@ unfolding statement_code with_statement
 lays_nothing p st is = λ s m.
     (sym (ap (statement_code s) is), λ _. subst (λ t. StandsFor p (with_statement s t)) (sym is) (stands_still p s m))
 
--- a line with a label that has a place already
+-- a line with a label that has an address already
 pub line_twice : (p q mid : Progress) (line : Line) → ((s : Layout) → StandsFor p s → Defines false s line mid)
     → Lays p q (λ s. line_code s line) (λ s. with_line s line) (Some DefinedTwice)
 unfolding line_code
@@ -641,7 +641,7 @@ last_none (Some a) (Some b) h = absurd (cc (least_some a b))
 
 -- a line whose labels are new
 pub line_lays : (p mid q : Progress) (line : Line) (labels own code : Option AsmCode)
-    → labels ≡ code_if (not (length line.labels == 0) && not (nat_lt p.place (2 ^ 18))) PlaceTooHigh
+    → labels ≡ code_if (not (length line.labels == 0) && not (nat_lt p.address (2 ^ 18))) AddressTooHigh
     → ((s : Layout) → StandsFor p s → Defines true s line mid)
     → Lays mid q (λ s. statement_code s line.statement) (λ s. with_statement s line.statement) own → code ≡ least labels own
     → Lays p q (λ s. line_code s line) (λ s. with_line s line) code
@@ -649,7 +649,7 @@ unfolding line_code
 line_lays p mid q line labels own code high defines lays is = λ s m.
     let d = defines s m in
     let r = lays (with_labels s line) (d.1 refl) in
-    let first : labels ≡ labels_code s line = high ∙ ap (λ n. code_if (not (length line.labels == 0) && not (nat_lt n (2 ^ 18))) PlaceTooHigh) m.place in (
+    let first : labels ≡ labels_code s line = high ∙ ap (λ n. code_if (not (length line.labels == 0) && not (nat_lt n (2 ^ 18))) AddressTooHigh) m.address in (
       is ∙ ap (λ c. least c own) first ∙ ap (least (labels_code s line)) r.0
           ∙ ap (λ b. cond b (least (labels_code s line) (statement_code (with_labels s line) line.statement)) (Some DefinedTwice)) d.0,
       λ h. r.1 (last_none labels own (sym is ∙ h)),

@@ -1,4 +1,4 @@
--- The text of an error, and what is told of a source that could not be read (this project's profile).
+-- The text of an error, and the error of a source that could not be read (this project's profile).
 use Rattle.std.specs.Prelude.{ℕ, List, ◌++◌, codes, decimal}
 use Rattle.mac_text.specs.declared.fault.ParseError.{ParseError}
 use Rattle.mac_text.specs.declared.fault.ParseError.TheVariants as parse_errors
@@ -12,7 +12,7 @@ abbrev pub error_text : AsmError → List ℕ
 error_text (errors.Line line code) = codes "line " ++ decimal line ++ codes ": code " ++ decimal (number_of code)
 error_text errors.Memory = codes "there is no memory"
 
--- what is told of a source that could not be read
+-- the error of a source that could not be read
 abbrev pub refusal_of : ParseError → AsmError
 refusal_of parse_errors.Memory = errors.Memory
 refusal_of (parse_errors.Syntax line) = errors.Line line Syntax

@@ -1,21 +1,22 @@
 -- What is wrong with a line (this project's profile): the least code where there are several.
 use Rattle.std.specs.Prelude.{ℕ, Bool, nat_le, Option, Some, None, Result, Ok, Err, if◌then◌else◌}
 use Rattle.mac_layout.specs.declared.error.AsmCode.{AsmCode}
-use Rattle.mac_layout.specs.declared.error.AsmCode.TheVariants.{Syntax, UnknownName, DefinedTwice, DoesNotFit, NotYetDefined, PlaceTooHigh, NoEnd}
+use Rattle.mac_layout.specs.declared.error.AsmCode.TheVariants.{Syntax, UnknownName, DefinedTwice, DoesNotFit}
+use Rattle.mac_layout.specs.declared.error.AsmCode.TheVariants.{NotYetDefined, AddressTooHigh, NoEnd}
 
 -- a line at fault, counted from 1, and what is wrong with it
 pub record Fault : Type 0 where
   pub line : ℕ
   pub code : AsmCode
 
--- where a line has several codes, the least is told
+-- of several codes of a line the least is reported
 abbrev pub number_of : AsmCode → ℕ
 number_of Syntax = 1
 number_of UnknownName = 2
 number_of DefinedTwice = 3
 number_of DoesNotFit = 4
 number_of NotYetDefined = 5
-number_of PlaceTooHigh = 6
+number_of AddressTooHigh = 6
 number_of NoEnd = 7
 
 unfoldable pub least : Option AsmCode → Option AsmCode → Option AsmCode

@@ -1,6 +1,6 @@
 pub mod Values
 pub mod TextSizes
-pub mod Places
+pub mod Addresses
 pub mod Faults
 pub mod LaidOut
 pub mod Layouts

@@ -1,5 +1,6 @@
 -- The values of expressions: whole numbers without bound.
-use Rattle.std.specs.Prelude.{ℕ, suc, ◌-◌, ◌%◌, ℤ, pos, negsuc, ◌+ℤ◌, ◌-ℤ◌, Bool, nat_eq, nat_le, is_some, List, [], ◌∷◌}
+use Rattle.std.specs.Prelude.{ℕ, suc, ◌-◌, ◌%◌, ℤ, pos, negsuc, ◌+ℤ◌, ◌-ℤ◌}
+use Rattle.std.specs.Prelude.{Bool, nat_eq, nat_le, is_some, List, [], ◌∷◌}
 use Rattle.std.specs.Prelude.{slice_get, Option, Some, None, option_and_then, if◌then◌else◌}
 use Rattle.std.specs.List.{list_all}
 use Rattle.indexmap.specs.IndexMap.{get}

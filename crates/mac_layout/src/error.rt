@@ -16,20 +16,20 @@ pub enum AsmCode {
     Syntax,
     /// 2: a name that is not defined.
     UnknownName,
-    /// 3: a name that is defined twice, or a place that is given two words.
+    /// 3: a name that is defined twice, or an address that is given two words.
     DefinedTwice,
     /// 4: a value that does not fit.
     DoesNotFit,
     /// 5: a literal, or a label that is not yet defined, in LOC or BLOCK.
     NotYetDefined,
-    /// 6: a word or a label at a place of 1000000 octal or more.
-    PlaceTooHigh,
+    /// 6: a word or a label at address 1000000 octal or above.
+    AddressTooHigh,
     /// 7: there is no END.
     NoEnd,
 }
 
 impl AsmCode {
-    /// Its number, from 1 to 7.
+    /// The number of the code, 1 to 7.
     pub fn number(self) -> u8
         ensures { result ≡ number_of self }
     {
@@ -39,7 +39,7 @@ impl AsmCode {
             AsmCode::DefinedTwice => 3,
             AsmCode::DoesNotFit => 4,
             AsmCode::NotYetDefined => 5,
-            AsmCode::PlaceTooHigh => 6,
+            AsmCode::AddressTooHigh => 6,
             AsmCode::NoEnd => 7,
         }
     }

@@ -1,17 +1,19 @@
 //! Where the labels, the statements and the literals of a source stand.
 
-ghost use Rattle.std.specs.Prelude.{◌≡◌, ◌+◌, ◌≤◌, ◌^◌, ◌&&◌, ◌==◌, not, nat_le, nat_lt, ◌++◌, ℕ, List, length, map, true, IfOk, MatchResult, OnOk};
+ghost use Rattle.std.specs.Prelude.{◌≡◌, ◌+◌, ◌≤◌, ◌^◌, ◌&&◌, ◌==◌, not, nat_le, nat_lt};
+ghost use Rattle.std.specs.Prelude.{◌++◌, ℕ, List, length, map, true, IfOk, MatchResult, OnOk};
 ghost use Rattle.std.specs.List.{range_with_len, list_any};
 ghost use Rattle.std.specs.Map.{keys_of};
-ghost use Rattle.mac_layout.specs.Places.{are_apart, places_from};
+ghost use Rattle.mac_layout.specs.Addresses.{are_apart, addresses_from};
 ghost use Rattle.mac_layout.specs.Faults.{code_if};
-ghost use Rattle.mac_layout.specs.LaidOut.{Layout as Above, checked_count, checked_size, literal_size, taking, places_in, taking_all, taking_size};
+ghost use Rattle.mac_layout.specs.LaidOut.{Layout as Above, checked_count, checked_size, literal_size};
+ghost use Rattle.mac_layout.specs.LaidOut.{taking, addresses_in, taking_all, taking_size};
 ghost use Rattle.mac_layout.specs.LaidOut.{count_or, statement_code, with_statement, line_code, with_line, empty_layout};
-ghost use Rattle.mac_layout.specs.declared.error.AsmCode.TheVariants.{DoesNotFit, PlaceTooHigh};
+ghost use Rattle.mac_layout.specs.declared.error.AsmCode.TheVariants.{DoesNotFit, AddressTooHigh};
 ghost use Rattle.mac_layout.specs.Layouts.{AreMarks, StandsFor, Defines, Lays, with_size, IsLayoutOf, Refuses};
 
+use crate::addresses::{FIRST, MEMORY_SIZE, clamped};
 use crate::error::{AsmCode, AsmError, least};
-use crate::places::{FIRST, PLACES, clamped};
 use crate::sums::{Labels, Scope, value};
 use crate::text_sizes::text_words;
 use indexmap::IndexMap;
@@ -23,28 +25,28 @@ use whole_numbers::Natural;
 #[derive(Drop)]
 pub struct Layout {
     pub labels: Labels,
-    /// The place of each line's statement.
-    pub places: Vec<Natural>,
-    /// The place of each literal, in order of their brackets.
+    /// The address of each line's statement.
+    pub addresses: Vec<Natural>,
+    /// The address of each literal, in order of their brackets.
     pub literals: Vec<Natural>,
 }
 
-/// How far lines are laid out.
+/// What is known while the lines are laid out one by one.
 #[derive(Drop)]
 struct Progress {
     labels: Labels,
-    /// The place behind the last word so far.
-    place: Natural,
-    /// The place of each line's statement.
-    places: Vec<Natural>,
-    /// Whether a place has a word.
+    /// The address behind the last word so far.
+    address: Natural,
+    /// The address of each line's statement.
+    addresses: Vec<Natural>,
+    /// Whether an address has a word.
     taken: Vec<bool>,
     /// How many words each literal has, or what is wrong with it.
     sizes: Vec<Result<Natural, AsmCode>>,
 }
 
-/// The value of the expression of LOC or BLOCK, which is not below 0, or its code. All its labels stand earlier, and it
-/// has no literal.
+/// The value of the expression of LOC or BLOCK, or the code of what is wrong: it is below 0, or it has a label that stands
+/// later or a literal.
 #[tactic(auto, unfolding(crate::specs::LaidOut::checked_count))]
 fn count<'a>(
     alloc: Global,
@@ -105,22 +107,22 @@ fn literal_size<'a>(
     Ok(size)
 }
 
-/// Of the places of so many words from one on, the first and how many there are, of so many in all.
+/// Of `size` addresses from `address` on, those below `all`: the first and how many they are.
 #[tactic(auto, using(crate::proofs::LayoutLemmas::part_is))]
-fn part(all: usize, place: &Natural, size: &Natural) -> (usize, usize)
+fn part(all: usize, address: &Natural, size: &Natural) -> (usize, usize)
     ensures within { result.0 + result.1 ≤ all }
-    ensures places { all ≡ 2 ^ 18 → range_with_len result.0 result.1 ≡ places_in place.now size.now }
+    ensures addresses { all ≡ 2 ^ 18 → range_with_len result.0 result.1 ≡ addresses_in address.now size.now }
 {
-    let first = clamped(place, all);
+    let first = clamped(address, all);
     (first, clamped(size, all - first))
 }
 
-/// Whether there are places for so many words from one on, of so many in all.
+/// Whether `size` addresses from `address` on are all below `all`.
 #[tactic(auto, using(crate::proofs::LayoutLemmas::room_is, crate::proofs::LayoutLemmas::no_room))]
-fn is_room(all: usize, place: &Natural, size: &Natural) -> bool
-    ensures { all ≡ 2 ^ 18 → not result ≡ (not (size.now == 0) && not (nat_le (place.now + size.now) (2 ^ 18))) }
+fn is_room(all: usize, address: &Natural, size: &Natural) -> bool
+    ensures { all ≡ 2 ^ 18 → not result ≡ (not (size.now == 0) && not (nat_le (address.now + size.now) (2 ^ 18))) }
 {
-    let room = all - clamped(place, all);
+    let room = all - clamped(address, all);
     match size.to_u64() {
         Some(size) => size <= room as u64,
         None => false,
@@ -133,37 +135,37 @@ fn any_marked(marks: &[bool]) -> bool
     marks.iter().any(|mark| *mark)
 }
 
-/// What is wrong where so many words stand from a place on: another word stands there, or there is no such place.
-fn taking(taken: &[bool], place: &Natural, size: &Natural) -> Option<AsmCode>
-    ensures { (past : List ℕ) → AreMarks taken.now past → result ≡ taking past place.now size.now }
+/// What is wrong with `size` words from an address on: another word stands there, or there is no such address.
+fn taking(taken: &[bool], address: &Natural, size: &Natural) -> Option<AsmCode>
+    ensures { (past : List ℕ) → AreMarks taken.now past → result ≡ taking past address.now size.now }
 {
-    let (first, len) = part(taken.len(), place, size);
+    let (first, len) = part(taken.len(), address, size);
     if any_marked(&taken[first..first + len]) {
         Some(AsmCode::DefinedTwice)
-    } else if is_room(taken.len(), place, size) {
+    } else if is_room(taken.len(), address, size) {
         None
     } else {
-        Some(AsmCode::PlaceTooHigh)
+        Some(AsmCode::AddressTooHigh)
     }
 }
 
-/// Marks the places of so many words from a place on.
-fn mark(taken: &mut [bool], place: &Natural, size: &Natural)
-    ensures { (past : List ℕ) → AreMarks taken.old past → AreMarks taken.new (past ++ places_in place.now size.now) }
+/// Marks `size` addresses from an address on as taken.
+fn mark(taken: &mut [bool], address: &Natural, size: &Natural)
+    ensures { (past : List ℕ) → AreMarks taken.old past → AreMarks taken.new (past ++ addresses_in address.now size.now) }
 {
-    let (first, len) = part(taken.len(), place, size);
+    let (first, len) = part(taken.len(), address, size);
     taken[first..first + len].fill(true);
 }
 
-/// Takes the place of one word; its code, where another word stands there, or there is no such place.
+/// Takes the address of one word. Returns the code if another word stands there or there is no such address.
 #[inline(always)]
-fn take_one(taken: &mut [bool], place: &Natural) -> Option<AsmCode>
-    ensures code { (past : List ℕ) → AreMarks taken.old past → result ≡ taking past place.now 1 }
-    ensures marks { (past : List ℕ) → AreMarks taken.old past → AreMarks taken.new (past ++ places_in place.now 1) }
+fn take_one(taken: &mut [bool], address: &Natural) -> Option<AsmCode>
+    ensures code { (past : List ℕ) → AreMarks taken.old past → result ≡ taking past address.now 1 }
+    ensures marks { (past : List ℕ) → AreMarks taken.old past → AreMarks taken.new (past ++ addresses_in address.now 1) }
 {
-    let at = clamped(place, taken.len());
+    let at = clamped(address, taken.len());
     if at == taken.len() {
-        return Some(AsmCode::PlaceTooHigh);
+        return Some(AsmCode::AddressTooHigh);
     }
     let twice = taken[at];
     taken[at] = true;
@@ -174,34 +176,34 @@ fn take_one(taken: &mut [bool], place: &Natural) -> Option<AsmCode>
     }
 }
 
-/// Takes the places of so many words from one on, likewise.
+/// Takes the addresses of `size` words from an address on, and returns the code of what is wrong in the same cases.
 #[inline(always)]
-fn take(taken: &mut [bool], place: &Natural, size: &Natural) -> Option<AsmCode>
-    ensures code { (past : List ℕ) → AreMarks taken.old past → result ≡ taking past place.now size.now }
-    ensures marks { (past : List ℕ) → AreMarks taken.old past → AreMarks taken.new (past ++ places_in place.now size.now) }
+fn take(taken: &mut [bool], address: &Natural, size: &Natural) -> Option<AsmCode>
+    ensures code { (past : List ℕ) → AreMarks taken.old past → result ≡ taking past address.now size.now }
+    ensures marks { (past : List ℕ) → AreMarks taken.old past → AreMarks taken.new (past ++ addresses_in address.now size.now) }
 {
     if size.to_u64() == Some(1) {
-        return take_one(taken, place);
+        return take_one(taken, address);
     }
-    let code = taking(taken, place, size);
-    mark(taken, place, size);
+    let code = taking(taken, address, size);
+    mark(taken, address, size);
     code
 }
 
-/// Gives each of these labels a place; false at the first that has one already, whose place is then lost.
+/// Gives each of these labels an address; false at the first that has one already, which then loses it.
 fn define(
     alloc: Global,
     labels: &mut Labels,
     names: &[Symbol],
-    place: &Natural,
+    address: &Natural,
 ) -> Result<bool, AllocError>
     ensures new { IfOk result (λ new. are_apart (keys_of labels.old.entries) ≡ true
         → new ≡ are_apart (keys_of labels.old.entries ++ names.now)) }
     ensures defined { IfOk result (λ new. new ≡ true
-        → labels.new.entries ≡ labels.old.entries ++ map (λ name. (name, place.now)) names.now) }
+        → labels.new.entries ≡ labels.old.entries ++ map (λ name. (name, address.now)) names.now) }
 {
     for name in names {
-        let earlier = labels.insert(name.sixbit(), place.try_clone(alloc)?)?;
+        let earlier = labels.insert(name.sixbit(), address.try_clone(alloc)?)?;
         if earlier.is_some() {
             return Ok(false);
         }
@@ -209,7 +211,7 @@ fn define(
     Ok(true)
 }
 
-/// Notes the sizes of literals.
+/// Appends the sizes of literals.
 fn measure<'a>(
     alloc: Global,
     labels: &'a Labels,
@@ -225,41 +227,41 @@ fn measure<'a>(
     Ok(())
 }
 
-/// What is wrong with a literal of this size at a place.
-fn size_code(taken: &[bool], place: &Natural, size: &Result<Natural, AsmCode>) -> Option<AsmCode>
-    ensures { (past : List ℕ) → AreMarks taken.now past → result ≡ taking_size past place.now size.now }
+/// What is wrong if a literal of this size stands at an address.
+fn size_code(taken: &[bool], address: &Natural, size: &Result<Natural, AsmCode>) -> Option<AsmCode>
+    ensures { (past : List ℕ) → AreMarks taken.now past → result ≡ taking_size past address.now size.now }
 {
     match size {
         Err(code) => Some(*code),
-        Ok(words) => taking(taken, place, words),
+        Ok(words) => taking(taken, address, words),
     }
 }
 
-/// Takes a place behind the words of a literal.
+/// Moves an address behind the words of a literal.
 fn advance(
     alloc: Global,
-    place: &mut Natural,
+    address: &mut Natural,
     size: &Result<Natural, AsmCode>,
 ) -> Result<(), AllocError>
-    ensures { OnOk result (place.new ≡ place.old + count_or 0 size.now) }
+    ensures { OnOk result (address.new ≡ address.old + count_or 0 size.now) }
 {
     match size {
         Err(_) => Ok(()),
-        Ok(words) => place.add(alloc, words),
+        Ok(words) => address.add(alloc, words),
     }
 }
 
-/// The least of what is wrong where literals of these sizes stand one behind the other.
+/// The least code of what is wrong if literals of these sizes stand one behind the other from an address on.
 fn literals_code(
     alloc: Global,
     taken: &[bool],
-    place: &Natural,
+    address: &Natural,
     sizes: &[Result<Natural, AsmCode>],
 ) -> Result<Option<AsmCode>, AllocError>
-    ensures { IfOk result (λ code. (past : List ℕ) → AreMarks taken.now past → code ≡ taking_all past place.now sizes.now) }
+    ensures { IfOk result (λ code. (past : List ℕ) → AreMarks taken.now past → code ≡ taking_all past address.now sizes.now) }
 {
     let mut code = None;
-    let mut at = place.try_clone(alloc)?;
+    let mut at = address.try_clone(alloc)?;
     for size in sizes {
         code = least(code, size_code(taken, &at, size));
         advance(alloc, &mut at, size)?;
@@ -267,31 +269,31 @@ fn literals_code(
     Ok(code)
 }
 
-/// The places of literals of these sizes, one behind the other.
-fn places_of_literals(
+/// The addresses of literals of these sizes, which stand one behind the other from an address on.
+fn addresses_of_literals(
     alloc: Global,
-    place: &Natural,
+    address: &Natural,
     sizes: &[Result<Natural, AsmCode>],
 ) -> Result<Vec<Natural>, AllocError>
-    ensures { IfOk result (λ places. places.items ≡ places_from place.now (map (count_or 0) sizes.now)) }
+    ensures { IfOk result (λ addresses. addresses.items ≡ addresses_from address.now (map (count_or 0) sizes.now)) }
 {
-    let mut places = Vec::new(alloc);
-    let mut at = place.try_clone(alloc)?;
+    let mut addresses = Vec::new(alloc);
+    let mut at = address.try_clone(alloc)?;
     for size in sizes {
-        places.push(at.try_clone(alloc)?)?;
+        addresses.push(at.try_clone(alloc)?)?;
         advance(alloc, &mut at, size)?;
     }
-    Ok(places)
+    Ok(addresses)
 }
 
-/// What is wrong with the place of a line that has labels.
-fn labels_code(place: &Natural, line: &Line) -> Option<AsmCode>
-    ensures { result ≡ code_if (not (length line.now.labels == 0) && not (nat_lt place.now (2 ^ 18))) PlaceTooHigh }
+/// What is wrong with the address of a line that has labels.
+fn labels_code(address: &Natural, line: &Line) -> Option<AsmCode>
+    ensures { result ≡ code_if (not (length line.now.labels == 0) && not (nat_lt address.now (2 ^ 18))) AddressTooHigh }
 {
-    if line.labels.len() == 0 || clamped(place, PLACES) < PLACES {
+    if line.labels.len() == 0 || clamped(address, MEMORY_SIZE) < MEMORY_SIZE {
         None
     } else {
-        Some(AsmCode::PlaceTooHigh)
+        Some(AsmCode::AddressTooHigh)
     }
 }
 
@@ -306,57 +308,62 @@ fn radix_code(radix: &Natural) -> Option<AsmCode>
 }
 
 impl Progress {
-    /// No line is laid out; there is room for so many lines and labels.
+    /// No line is laid out yet; room for `lines` lines and `labels` labels is reserved.
     fn new(alloc: Global, lines: usize, labels: usize) -> Result<Progress, AllocError>
         ensures { IfOk result (λ progress. StandsFor progress empty_layout) }
     {
         Ok(Progress {
             labels: IndexMap::with_capacity(alloc, labels)?,
-            place: Natural::from_u64(FIRST as u64),
-            places: Vec::with_capacity(alloc, lines)?,
-            taken: vec![in alloc; false; PLACES]?,
+            address: Natural::from_u64(FIRST as u64),
+            addresses: Vec::with_capacity(alloc, lines)?,
+            taken: vec![in alloc; false; MEMORY_SIZE]?,
             sizes: Vec::new(alloc),
         })
     }
 
-    /// Gives the labels of a line its place, and measures its literals; false where a label stands twice.
-    fn place_labels(&mut self, alloc: Global, line: &Line) -> Result<bool, AllocError>
+    /// Gives the labels of a line its address, and appends the sizes of its literals; false if a label is defined twice.
+    fn lay_out_labels(&mut self, alloc: Global, line: &Line) -> Result<bool, AllocError>
         ensures { IfOk result (λ new. (s : Above) → StandsFor self.old s → Defines new s line.now self.new) }
     {
-        if !define(alloc, &mut self.labels, line.labels.as_slice(), &self.place)? {
+        if !define(
+            alloc,
+            &mut self.labels,
+            line.labels.as_slice(),
+            &self.address,
+        )? {
             return Ok(false);
         }
         measure(
             alloc,
             &self.labels,
-            &self.place,
+            &self.address,
             line.literals.as_slice(),
             &mut self.sizes,
         )?;
-        self.places.push(self.place.try_clone(alloc)?)?;
+        self.addresses.push(self.address.try_clone(alloc)?)?;
         Ok(true)
     }
 
-    /// Takes the places of a statement of this size.
+    /// Takes the addresses of a statement of this size. Returns the code of what is wrong.
     fn put(
         &mut self,
         alloc: Global,
         size: Result<Natural, AsmCode>,
     ) -> Result<Option<AsmCode>, AllocError>
-        ensures { IfOk result (Lays self.old self.new (λ s. taking_size s.taken s.place size) (λ s. with_size s size)) }
+        ensures { IfOk result (Lays self.old self.new (λ s. taking_size s.taken s.address size) (λ s. with_size s size)) }
     {
         match size {
             Err(code) => Ok(Some(code)),
             Ok(words) => {
-                let code = take(&mut self.taken, &self.place, &words);
-                self.place.add(alloc, &words)?;
+                let code = take(&mut self.taken, &self.address, &words);
+                self.address.add(alloc, &words)?;
                 Ok(code)
             }
         }
     }
 
-    /// Puts the statement of a line in its place; its code, where that is wrong.
-    fn place_statement<'a>(
+    /// Lays out the statement of a line. Returns the code of what is wrong.
+    fn lay_out_statement<'a>(
         &mut self,
         alloc: Global,
         statement: &'a Option<Statement>,
@@ -368,42 +375,41 @@ impl Progress {
         };
         match statement {
             Statement::Data(given) => {
-                let size = size(alloc, &self.labels, &self.place, given)?;
+                let size = size(alloc, &self.labels, &self.address, given)?;
                 self.put(alloc, size)
             }
             Statement::Loc(expression) => {
-                match count(alloc, &self.labels, &self.place, expression)? {
+                match count(alloc, &self.labels, &self.address, expression)? {
                     Err(code) => Ok(Some(code)),
-                    Ok(place) => {
-                        self.place = place;
+                    Ok(address) => {
+                        self.address = address;
                         Ok(None)
                     }
                 }
             }
             Statement::Radix(radix) => Ok(radix_code(radix)),
-            Statement::End(_) => literals_code(alloc, &self.taken, &self.place, &self.sizes),
+            Statement::End(_) => literals_code(alloc, &self.taken, &self.address, &self.sizes),
             Statement::Title => Ok(None),
         }
     }
 
-    /// Puts a line in its place; its least code, where something is wrong.
-    fn place_line(&mut self, alloc: Global, line: &Line) -> Result<Option<AsmCode>, AllocError>
+    /// Lays out a line. Returns the least code of what is wrong.
+    fn lay_out_line(&mut self, alloc: Global, line: &Line) -> Result<Option<AsmCode>, AllocError>
         ensures { IfOk result (Lays self.old self.new (λ s. line_code s line.now) (λ s. with_line s line.now)) }
     {
-        let code = labels_code(&self.place, line);
-        if !self.place_labels(alloc, line)? {
+        let code = labels_code(&self.address, line);
+        if !self.lay_out_labels(alloc, line)? {
             return Ok(Some(AsmCode::DefinedTwice));
         }
-        Ok(least(code, self.place_statement(alloc, &line.statement)?))
+        Ok(least(code, self.lay_out_statement(alloc, &line.statement)?))
     }
 }
 
-/// Puts all lines in their places, or tells the first line where that is wrong, with the least code of what is.
+/// Lays out all lines, or reports the first that cannot be laid out, with the least code of what is wrong with it.
 ///
-/// A line is wrong where a label has a place already (3), or where it has labels and stands at 1000000 octal or above (6);
-/// a word where its place has one already (3), or is 1000000 octal or above (6); a literal where it has no words (4); LOC,
-/// BLOCK and RADIX where their value does not fit (4) or speaks of a later label or a literal (5). Literals stand behind
-/// END, and are looked at there.
+/// A label is wrong if it has an address already (3) or stands at 1000000 octal or above (6); a word if its address has one
+/// already (3) or is 1000000 octal or above (6); a literal if it has no words (4); LOC, BLOCK and RADIX if their value does not
+/// fit (4), LOC and BLOCK if it has a later label or a literal (5). Literals stand behind END, and are checked there.
 #[inline(never)]
 pub fn lay_out(alloc: Global, lines: &[Line]) -> Result<Layout, AsmError>
     ensures { MatchResult result (λ layout. IsLayoutOf layout lines.now) (λ e. Refuses e lines.now) }
@@ -413,14 +419,14 @@ pub fn lay_out(alloc: Global, lines: &[Line]) -> Result<Layout, AsmError>
     });
     let mut progress = Progress::new(alloc, lines.len(), labels)?;
     for (i, line) in lines.iter().enumerate() {
-        if let Some(code) = progress.place_line(alloc, line)? {
+        if let Some(code) = progress.lay_out_line(alloc, line)? {
             return Err(AsmError::Line { line: i + 1, code });
         }
     }
-    let literals = places_of_literals(alloc, &progress.place, &progress.sizes)?;
+    let literals = addresses_of_literals(alloc, &progress.address, &progress.sizes)?;
     Ok(Layout {
         labels: progress.labels,
-        places: progress.places,
+        addresses: progress.addresses,
         literals,
     })
 }

@@ -1,10 +1,12 @@
--- Terms and expressions (MACRO-10 Assembler Manual, this project's profile): each reads from a place in a line, and
--- gives what was read and the place behind it.
-use Rattle.std.specs.Prelude.{ℕ, ◌==◌, ◌||◌, List, [], ◌∷◌, length, Option, Some, None, option_map, unwrap_or, codes, if◌then◌else◌}
+-- Terms and expressions (MACRO-10 Assembler Manual, this project's profile): each reads from a position in a line, and
+-- gives what was read and the position behind it.
+use Rattle.std.specs.Prelude.{ℕ, ◌==◌, ◌||◌, List, [], ◌∷◌, length, Option, Some}
+use Rattle.std.specs.Prelude.{None, option_map, unwrap_or, codes, if◌then◌else◌}
 use Rattle.std.specs.Str.{bytes_eq}
 use Rattle.mac_text.specs.Names.{is_name, symbol_of}
 use Rattle.mac_text.specs.Numbers.{number_of}
-use Rattle.mac_text.specs.Scan.{◌>>=◌, Scan, skipped, without, head_of, meets, eaten, word_of, take_cut, begins_expression, with_front, items_at}
+use Rattle.mac_text.specs.Scan.{◌>>=◌, Scan, skipped, without, head_of, meets, eaten, word_of}
+use Rattle.mac_text.specs.Scan.{take_cut, begins_expression, with_front, items_at}
 use Rattle.mac_text.specs.Texts.{literal_len}
 use Rattle.mac_text.specs.declared.syntax.Sign.{Sign}
 use Rattle.mac_text.specs.declared.syntax.Sign.TheVariants.{Plus, Minus}
@@ -12,7 +14,7 @@ use Rattle.mac_text.specs.declared.syntax.Term.{Term}
 use Rattle.mac_text.specs.declared.syntax.Term.TheVariants.{Number, Label, Here, Literal}
 use Rattle.mac_text.specs.declared.syntax.SignedTerm.{SignedTerm}
 
--- a name is a label, the point is the statement's place, and anything else a number
+-- a name is a label, the point is the statement's address, and anything else a number
 abbrev pub term_of_word : ℕ → List ℕ → Option Term
 term_of_word radix word =
     if is_name word then Some (Label (symbol_of word)) else

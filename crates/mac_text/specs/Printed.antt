@@ -1,5 +1,6 @@
 -- A word as `ka_isa` writes it on a line (ka_isa.specs.Text), and what the grammar reads there.
-use Rattle.std.specs.Prelude.{ℕ, ◌*◌, ◌/◌, ◌^◌, ◌==◌, List, [], ◌∷◌, ◌++◌, Option, Some, None, if◌then◌else◌}
+use Rattle.std.specs.Prelude.{ℕ, ◌*◌, ◌/◌, ◌^◌, ◌==◌, List, [], ◌∷◌}
+use Rattle.std.specs.Prelude.{◌++◌, Option, Some, None, if◌then◌else◌}
 use Rattle.word36.specs.Words.{left_half, right_half}
 use Rattle.ka_isa.specs.declared.Fields.{Fields}
 use Rattle.ka_isa.specs.Fields.{fields_of}

@@ -1,5 +1,6 @@
 -- A line as it is read from left to right.
-use Rattle.std.specs.Prelude.{◌≡◌, ℕ, zero, suc, ◌+◌, Bool, true, false, ◌==◌, ◌||◌, ◌&&◌, not, List, [], ◌∷◌, ◌++◌, length, take}
+use Rattle.std.specs.Prelude.{◌≡◌, ℕ, zero, suc, ◌+◌, Bool, true, false, ◌==◌, ◌||◌}
+use Rattle.std.specs.Prelude.{◌&&◌, not, List, [], ◌∷◌, ◌++◌, length, take}
 use Rattle.std.specs.Prelude.{drop, Option, Some, None, Result, Ok, Err, option_and_then, if◌then◌else◌}
 use Rattle.std.specs.List.{prefix_len, take_while}
 use Rattle.mac_text.specs.Characters.{is_blank, is_name_character}
@@ -102,4 +103,5 @@ with_front front read = read >>= λ x. Some (front ++ x.0, x.1)
 -- one item after another, as long as one comes next; there are at most so many
 unfoldable pub items_at : {X : Type 0} → (Scan → Option (Option X × Scan)) → ℕ → Scan → Option (List X × Scan)
 items_at next zero s = Some ([], s)
-items_at next (suc n) s = next s >>= λ x. elim x.0 [ None ↦ Some ([], x.1) | Some item ↦ with_front (item ∷ []) (items_at next n x.1) ]
+items_at next (suc n) s =
+    next s >>= λ x. elim x.0 [ None ↦ Some ([], x.1) | Some item ↦ with_front (item ∷ []) (items_at next n x.1) ]

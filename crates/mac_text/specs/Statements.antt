@@ -1,9 +1,11 @@
--- Statements (MACRO-10 Assembler Manual, this project's profile): each reads from a place in a line, and gives what was
--- read and the place behind it.
-use Rattle.std.specs.Prelude.{ℕ, Bool, false, ◌||◌, ◌&&◌, not, is_none, List, [], ◌∷◌, length, Option, Some, None, if◌then◌else◌}
+-- Statements (MACRO-10 Assembler Manual, this project's profile): each reads from a position in a line, and gives
+-- what was read and the position behind it.
+use Rattle.std.specs.Prelude.{ℕ, Bool, false, ◌||◌, ◌&&◌, not, is_none, List, []}
+use Rattle.std.specs.Prelude.{◌∷◌, length, Option, Some, None, if◌then◌else◌}
 use Rattle.mac_text.specs.Names.{is_name, folded}
 use Rattle.mac_text.specs.Numbers.{number_of}
-use Rattle.mac_text.specs.Scan.{◌>>=◌, Scan, skipped, without, meets, eaten, meets_commas, commas_eaten, word_of, comment_of, with_front, items_at}
+use Rattle.mac_text.specs.Scan.{◌>>=◌, Scan, skipped, without, meets, eaten, meets_commas}
+use Rattle.mac_text.specs.Scan.{commas_eaten, word_of, comment_of, with_front, items_at}
 use Rattle.mac_text.specs.Texts.{take_text}
 use Rattle.mac_text.specs.Expressions.{marked_at, expression_at, optional_at}
 use Rattle.mac_text.specs.Keywords.{form_of}
@@ -146,6 +148,6 @@ formed_at None word s = named_at (operation_of (folded word)) (length word) s
 abbrev pub worded_at : List ℕ → Scan → Option (Statement × Scan)
 worded_at word s = if is_name word then formed_at (form_of (folded word)) word s else with_data (λ d. d) (value_at s)
 
--- a statement: its first name tells its form or its operation; where it tells none, it is a value
+-- a statement: its first name is that of a form or an operation; if it is neither, the statement is a value
 unfoldable pub statement_at : Scan → Option (Statement × Scan)
 statement_at s = worded_at (word_of (skipped s).rest) (skipped s)

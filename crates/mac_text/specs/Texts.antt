@@ -1,5 +1,6 @@
 -- Texts between two equal characters, and where a literal ends.
-use Rattle.std.specs.Prelude.{ℕ, ◌+◌, ◌-◌, ◌==◌, List, [], ◌∷◌, length, take, drop, position, Option, Some, None, option_map}
+use Rattle.std.specs.Prelude.{ℕ, ◌+◌, ◌-◌, ◌==◌, List, [], ◌∷◌, length}
+use Rattle.std.specs.Prelude.{take, drop, position, Option, Some, None, option_map}
 use Rattle.std.specs.List.{prefix_len}
 use Rattle.mac_text.specs.Characters.{is_name_character}
 use Rattle.mac_text.specs.Names.{folded}
@@ -40,6 +41,6 @@ literal_len bytes = do
   more ← position (λ c. c == 93) behind
   Some (length bytes - length behind + more)
 
--- the text that comes next on a line, and the place behind it
+-- the text that comes next on a line, and the position behind it
 abbrev pub take_text : Scan → Option (List ℕ × Scan)
 take_text s = option_map (λ x. (x.0, record s { rest = x.1 })) (text_at s.rest)

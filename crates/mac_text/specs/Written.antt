@@ -296,13 +296,15 @@ module _ {radix : ℕ} {L : Type 0} where
 
   unfoldable pub more_given : List L → List (MoreText radix L) → List SignedTerm
   more_given earlier [] = []
-  more_given earlier (m ∷ ms) = record { sign = m.sign.sign; term = term_given earlier m.term } ∷ more_given (term_literals earlier m.term) ms
+  more_given earlier (m ∷ ms) =
+      record { sign = m.sign.sign; term = term_given earlier m.term } ∷ more_given (term_literals earlier m.term) ms
 
   abbrev pub expression_literals : List L → ExpressionText radix L → List L
   expression_literals earlier e = more_literals (term_literals earlier e.term) e.more
 
   abbrev pub expression_given : List L → ExpressionText radix L → List SignedTerm
-  expression_given earlier e = record { sign = sign_given e.sign; term = term_given earlier e.term } ∷ more_given (term_literals earlier e.term) e.more
+  expression_given earlier e =
+      record { sign = sign_given e.sign; term = term_given earlier e.term } ∷ more_given (term_literals earlier e.term) e.more
 
   abbrev pub optional_literals : List L → Option (ExpressionText radix L) → List L
   optional_literals earlier None = earlier
@@ -369,7 +371,8 @@ module _ {radix : ℕ} {L : Type 0} where
   abbrev pub form_given : List L → FormText radix L → Statement
   form_given earlier (Xwd p) = statements.Data (data_of.Halves (expression_given earlier p.left) (right_given earlier p))
   form_given earlier (Iowd p) = statements.Data (data_of.Iowd (expression_given earlier p.left) (right_given earlier p))
-  form_given earlier (Exp e more) = statements.Data (data_of.Exp (expression_given earlier e ∷ items_given (expression_literals earlier e) more))
+  form_given earlier (Exp e more) =
+      statements.Data (data_of.Exp (expression_given earlier e ∷ items_given (expression_literals earlier e) more))
   form_given earlier (Point p) =
       statements.Data
       (data_of.Point (number_given p.size) (operand_given earlier p.operand) (option_map (λ x. number_given x.number) p.position))
@@ -401,7 +404,8 @@ abbrev pub statement_before : {radix : ℕ} {L : Type 0} → (L → List ℕ) �
 statement_before text_of (Formed name form) rest = name.text ++ form_before text_of form rest
 statement_before text_of (Instruction name named o) rest = name.text ++ operands_before text_of o rest
 statement_before text_of (Value e) rest = expression_before text_of e rest
-statement_before text_of (Halves p) rest = expression_before text_of p.left (p.behind.text ++ 44 ∷ 44 ∷ expression_before text_of p.right rest)
+statement_before text_of (Halves p) rest =
+    expression_before text_of p.left (p.behind.text ++ 44 ∷ 44 ∷ expression_before text_of p.right rest)
 
 abbrev pub statement_literals : {radix : ℕ} {L : Type 0} → StatementText radix L → List L
 statement_literals (Formed name form) = form_literals [] form

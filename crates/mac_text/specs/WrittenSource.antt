@@ -1,6 +1,7 @@
 -- Sources as they may be written (MACRO-10 Assembler Manual, this project's profile): lines as in `Written`, each with
 -- its end, and what they stand for.
-use Rattle.std.specs.Prelude.{◌≡◌, ℕ, ◌-◌, Bool, true, false, ◌==◌, not, List, [], ◌∷◌, ◌++◌, length, slice_index, map}
+use Rattle.std.specs.Prelude.{◌≡◌, ℕ, ◌-◌, Bool, true, false, ◌==◌, not}
+use Rattle.std.specs.Prelude.{List, [], ◌∷◌, ◌++◌, length, slice_index, map}
 use Rattle.std.specs.List.{list_all}
 use Rattle.mac_text.specs.Lines.{radix_after, is_end}
 use Rattle.mac_text.specs.Written.{LineText, IsLine, line_text, line_given}

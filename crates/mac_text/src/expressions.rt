@@ -12,7 +12,7 @@ ghost use Rattle.mac_text.specs.declared.syntax.Sign.TheVariants.{Plus};
 use crate::characters::is_digit;
 use crate::fault::Fault;
 use crate::numbers::{leading_number, number};
-use crate::place::{clear, fill};
+use crate::optional::{clear, fill};
 use crate::scanner::Scanner;
 use crate::sum::Expression;
 use crate::symbol::Symbol;
@@ -97,7 +97,7 @@ fn term(scan: &mut Scanner<'_>) -> Result<Term, Fault>
     }
 }
 
-/// The sign that comes next, if one does.
+/// Reads a sign; None if none comes next.
 #[tactic(auto, unfolding(crate::specs::Expressions::sign_at), using(crate::proofs::WordLemmas::skip_twice))]
 fn sign(scan: &mut Scanner<'_>) -> Option<Sign>
     ensures value { result ≡ (sign_at scan.old).0 }
@@ -173,7 +173,7 @@ fn first_term(sign: Sign, scan: &mut Scanner<'_>) -> Result<Expression, Fault>
     Ok(Expression::of(scan.alloc(), term)?)
 }
 
-/// The next term behind its sign, if a sign comes next.
+/// Reads a sign and its term; None if no sign comes next.
 #[tactic(auto, unfolding(crate::specs::Expressions::next_term_at))]
 fn next_term(scan: &mut Scanner<'_>) -> Result<Option<SignedTerm>, Fault>
     ensures { Gives (λ x. (x, scan.new)) result (next_term_at scan.old) }
@@ -184,7 +184,7 @@ fn next_term(scan: &mut Scanner<'_>) -> Result<Option<SignedTerm>, Fault>
     }
 }
 
-/// Terms, each behind its sign; there are at most so many.
+/// Reads terms, each behind its sign, and adds them to the expression; at most `most`.
 #[inline(never)]
 fn more_terms(scan: &mut Scanner<'_>, most: usize, expression: &mut Expression) -> Result<(), Fault>
     ensures { Gives (λ _. (expression.new, scan.new)) result (with_front expression.old (items_at next_term_at most scan.old)) }
@@ -219,19 +219,19 @@ pub fn expression(scan: &mut Scanner<'_>) -> Result<Expression, Fault>
     Ok(expression)
 }
 
-/// Reads an expression, if one comes next, and puts it in place.
+/// Reads an expression into `out`; None if none comes next.
 #[inline(always)]
 #[tactic(auto, unfolding(crate::specs::Expressions::optional_at))]
 pub fn optional_expression(
     scan: &mut Scanner<'_>,
-    place: &mut Option<Expression>,
+    out: &mut Option<Expression>,
 ) -> Result<(), Fault>
-    ensures { Gives (λ _. (place.new, scan.new)) result (optional_at scan.old) }
+    ensures { Gives (λ _. (out.new, scan.new)) result (optional_at scan.old) }
 {
     if scan.is_at_expression() {
-        fill(place, expression(scan)?);
+        fill(out, expression(scan)?);
     } else {
-        clear(place);
+        clear(out);
     }
     Ok(())
 }

@@ -10,7 +10,7 @@ mod laws;
 mod line;
 mod numbers;
 mod operations;
-mod place;
+mod optional;
 mod scanner;
 mod sequence;
 mod source;

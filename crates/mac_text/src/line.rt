@@ -11,7 +11,7 @@ use crate::characters::is_ascii;
 use crate::expressions::is_name;
 use crate::fault::Fault;
 use crate::labels::Labels;
-use crate::place::{clear, discard};
+use crate::optional::{clear, discard};
 use crate::scanner::Scanner;
 use crate::sequence::Sequence;
 use crate::statements::statement;
@@ -19,7 +19,8 @@ use crate::symbol::Symbol;
 use crate::syntax::{Data, Line, Statement, TextForm};
 use std::alloc::Global;
 
-/// The next label, if one comes next: a name with a colon right behind it. With it comes the word that stands there.
+/// Reads a label: a name with a colon right behind it; None if no label comes next. The second of the pair is the word that
+/// stands there, label or not.
 #[tactic(auto, unfolding(crate::specs::Lines::next_label_at), using(crate::proofs::WordLemmas::word_length, crate::proofs::WordLemmas::skip_twice))]
 fn next_label<'a>(scan: &mut Scanner<'a>) -> (Option<Symbol>, &'a [u8])
     ensures label { next_label_at scan.old ≡ Some (result.0, scan.new) }
@@ -36,53 +37,53 @@ fn next_label<'a>(scan: &mut Scanner<'a>) -> (Option<Symbol>, &'a [u8])
     }
 }
 
-/// Reads the labels at the head of a line, puts them in place, and gives the word behind them.
-fn labels<'a>(scan: &mut Scanner<'a>, place: &mut Labels) -> Result<&'a [u8], Fault>
-    ensures labels { Gives (λ _. (place.new, scan.new)) result (items_at next_label_at (length scan.old.rest) scan.old) }
+/// Reads the labels at the head of a line into `out`, and returns the word behind them.
+fn labels<'a>(scan: &mut Scanner<'a>, out: &mut Labels) -> Result<&'a [u8], Fault>
+    ensures labels { Gives (λ _. (out.new, scan.new)) result (items_at next_label_at (length scan.old.rest) scan.old) }
     ensures word { IfOk result (λ word. word.now ≡ word_of (after_blanks scan.new.rest)) }
 {
-    place.clear();
+    out.clear();
     let most = scan.len();
     for _ in 0..most {
         match next_label(scan) {
             (None, word) => return Ok(word),
-            (Some(label), _) => place.push(scan.alloc(), label)?,
+            (Some(label), _) => out.push(scan.alloc(), label)?,
         }
     }
     Ok(&[])
 }
 
-/// The statement of a line, if there is one, where this word comes next.
+/// Reads the statement of a line into `out`, None if there is none; `word` is the word that comes next.
 #[inline(always)]
 #[tactic(auto, unfolding(crate::specs::Lines::optional_statement_at), using(crate::proofs::WordLemmas::skip_twice))]
 fn optional_statement(
     scan: &mut Scanner<'_>,
     word: &[u8],
-    place: &mut Option<Statement>,
+    out: &mut Option<Statement>,
 ) -> Result<(), Fault>
     requires { word.now ≡ word_of (after_blanks scan.old.rest) }
-    ensures { Gives (λ _. (place.new, scan.new)) result (optional_statement_at scan.old) }
+    ensures { Gives (λ _. (out.new, scan.new)) result (optional_statement_at scan.old) }
 {
     if scan.is_at_end() {
-        clear(place);
+        clear(out);
     } else {
-        statement(scan, word, place)?;
+        statement(scan, word, out)?;
     }
     Ok(())
 }
 
-/// The statement of a line, if there is one, where this word comes next, with nothing behind it but a comment.
+/// The same, and refuses the line if anything but a comment stands behind the statement.
 #[inline(always)]
 #[tactic(auto, unfolding(crate::specs::Lines::whole_statement_at))]
 fn whole_statement(
     scan: &mut Scanner<'_>,
     word: &[u8],
-    place: &mut Option<Statement>,
+    out: &mut Option<Statement>,
 ) -> Result<(), Fault>
     requires { word.now ≡ word_of (after_blanks scan.old.rest) }
-    ensures { Gives (λ _. (place.new, scan.new)) result (whole_statement_at scan.old) }
+    ensures { Gives (λ _. (out.new, scan.new)) result (whole_statement_at scan.old) }
 {
-    optional_statement(scan, word, place)?;
+    optional_statement(scan, word, out)?;
     if scan.is_at_end() {
         Ok(())
     } else {
@@ -90,7 +91,7 @@ fn whole_statement(
     }
 }
 
-/// Whether a statement gives at least one word, as far as its form tells.
+/// Whether a statement gives at least one word, as far as its form shows.
 #[tactic(auto, unfolding(crate::specs::Lines::gives_words))]
 fn gives_words(data: &Data) -> bool
     ensures { result ≡ gives_words data.now }
@@ -101,7 +102,7 @@ fn gives_words(data: &Data) -> bool
     }
 }
 
-/// What gives at least one word, as far as its form tells.
+/// The statement itself; refused if its form shows that it gives no word.
 fn with_words(given: Data) -> Result<Data, Fault>
     ensures { Gives (λ x. x) result (with_words given) }
 {
@@ -133,12 +134,12 @@ fn literal(alloc: Global, radix: u8, text: &[u8]) -> Result<Data, Fault>
     ensures { Gives (λ x. x) result (literal_of radix text.now) }
 {
     let mut scan = Scanner::new(alloc, radix, true, text);
-    let mut place = None;
+    let mut out = None;
     let word = scan.next_word();
-    match whole_statement(&mut scan, word, &mut place) {
-        Ok(()) => literal_data(place),
+    match whole_statement(&mut scan, word, &mut out) {
+        Ok(()) => literal_data(out),
         Err(fault) => {
-            discard(place);
+            discard(out);
             Err(fault)
         }
     }
@@ -157,45 +158,45 @@ fn literals(alloc: Global, radix: u8, texts: &[&[u8]]) -> Result<Sequence<Data>,
     Ok(literals)
 }
 
-/// Reads the statements in the literals of a line, and puts them in place. Most lines have none.
+/// Reads the statements in the literals of a line into `out`. Most lines have none.
 #[inline(always)]
 #[tactic(auto, unfolding(crate::specs::Lines::literals_of))]
 fn fill_literals(
     alloc: Global,
     radix: u8,
     texts: &[&[u8]],
-    place: &mut Sequence<Data>,
+    out: &mut Sequence<Data>,
 ) -> Result<(), Fault>
     requires { radix ≤ 10 }
-    ensures { Gives (λ _. place.new) result (literals_of radix (map (λ text. text.now) texts.now)) }
+    ensures { Gives (λ _. out.new) result (literals_of radix (map (λ text. text.now) texts.now)) }
 {
-    if texts.is_empty() && place.is_empty() {
+    if texts.is_empty() && out.is_empty() {
         return Ok(());
     }
-    *place = literals(alloc, radix, texts)?;
+    *out = literals(alloc, radix, texts)?;
     Ok(())
 }
 
-/// Reads what stands on a line, and puts it in place. The line may be known to be ASCII.
+/// Reads a line into `out`; `is_known_ascii` saves the test that it is ASCII.
 #[tactic(auto, unfolding(crate::specs::Lines::line_of))]
 pub fn read_line(
     alloc: Global,
     radix: u8,
     is_known_ascii: bool,
     text: &[u8],
-    place: &mut Line,
+    out: &mut Line,
 ) -> Result<(), Fault>
     requires radix { radix ≤ 10 }
     requires known { IsTrue is_known_ascii → list_all is_ascii text.now ≡ true }
-    ensures { Gives (λ _. place.new) result (line_of radix text.now) }
+    ensures { Gives (λ _. out.new) result (line_of radix text.now) }
 {
     if !is_known_ascii && !is_ascii(text) {
         return Err(Fault::Syntax);
     }
     let mut scan = Scanner::new(alloc, radix, false, text);
-    let word = labels(&mut scan, &mut place.labels)?;
-    whole_statement(&mut scan, word, &mut place.statement)?;
-    fill_literals(alloc, radix, scan.cuts(), &mut place.literals)
+    let word = labels(&mut scan, &mut out.labels)?;
+    whole_statement(&mut scan, word, &mut out.statement)?;
+    fill_literals(alloc, radix, scan.cuts(), &mut out.literals)
 }
 
 /// The radix of the numbers on the lines behind this one.

@@ -1,6 +1,7 @@
 //! A line as it is read from left to right.
 
-ghost use Rattle.std.specs.Prelude.{◌≡◌, ◌<◌, ◌≤◌, List, [], ◌∷◌, ◌++◌, ◌||◌, map, Some, None, Bool, true, false, IsTrue, length, drop};
+ghost use Rattle.std.specs.Prelude.{◌≡◌, ◌<◌, ◌≤◌, List, [], ◌∷◌, ◌++◌, ◌||◌};
+ghost use Rattle.std.specs.Prelude.{map, Some, None, Bool, true, false, IsTrue, length, drop};
 ghost use Rattle.mac_text.specs.Scan.{Gives, Scan, after_blanks, skipped, head_of, begins_with, meets, eaten, word_of, take_cut};
 ghost use Rattle.mac_text.specs.Scan.{begins_expression, is_at_end, without, meets_commas, commas_eaten, comment_of};
 ghost use Rattle.std.specs.List.{list_all};
@@ -30,7 +31,12 @@ impl<'a> Model for Scanner<'a> {
 
     ghost Value = { Scan };
 
-    ghost view = { λ s. record { radix = s.radix; in_literal = s.in_literal; cuts = map (λ cut. cut.now) s.cuts.items; rest = s.rest.now } };
+    ghost view = { λ s. record {
+      radix = s.radix;
+      in_literal = s.in_literal;
+      cuts = map (λ cut. cut.now) s.cuts.items;
+      rest = s.rest.now;
+    } };
 
     ghost invariant = { λ s. s.radix ≤ 10 };
 }
@@ -75,7 +81,7 @@ impl<'a> Scanner<'a> {
         self.rest.len()
     }
 
-    /// Goes over blanks.
+    /// Skips blanks.
     pub fn skip(&mut self)
         ensures { self.new ≡ skipped self.old }
     {
@@ -92,7 +98,7 @@ impl<'a> Scanner<'a> {
         self.rest.first().copied()
     }
 
-    /// Goes over blanks, and over the byte where it comes next.
+    /// Skips blanks, and then the byte if it comes next; true if it did.
     pub fn eat(&mut self, byte: u8) -> bool
         ensures met { result ≡ meets byte self.old }
         ensures rest { self.new ≡ eaten byte self.old }
@@ -126,7 +132,7 @@ impl<'a> Scanner<'a> {
         &text[..word_len(text)]
     }
 
-    /// Whether a colon stands behind so many bytes.
+    /// Whether a colon stands behind the next `n` bytes.
     pub fn has_colon_behind(&self, n: usize) -> bool
         ensures colon { result ≡ begins_with 58 (drop n self.now.rest) }
         ensures more { IsTrue result → n < length self.now.rest }
@@ -135,7 +141,7 @@ impl<'a> Scanner<'a> {
         n < rest.len() && rest[n] == b':'
     }
 
-    /// Goes over so many bytes.
+    /// Skips `n` bytes.
     pub fn advance(&mut self, n: usize)
         requires { n ≤ length self.old.rest }
         ensures { self.new ≡ without n self.old }
@@ -151,7 +157,7 @@ impl<'a> Scanner<'a> {
         self.rest
     }
 
-    /// Cuts out the text of a literal, of so many bytes, and goes over it and the bracket behind it.
+    /// Cuts out the text of a literal, of `n` bytes, and skips it and the bracket behind it. Returns the literal's number.
     pub fn cut(&mut self, n: usize) -> Result<usize, Fault>
         requires { n < length self.old.rest }
         ensures { Gives (λ at. (at, self.new)) result (Some (take_cut n self.old)) }
@@ -163,7 +169,7 @@ impl<'a> Scanner<'a> {
         Ok(at)
     }
 
-    /// Goes over blanks, and over two commas where they come next with nothing between them.
+    /// Skips blanks, and then two commas if they come next with nothing between them; true if they did.
     pub fn eat_commas(&mut self) -> bool
         ensures met { result ≡ meets_commas self.old }
         ensures rest { self.new ≡ commas_eaten self.old }
@@ -177,7 +183,7 @@ impl<'a> Scanner<'a> {
         met
     }
 
-    /// Goes over a text between two equal characters, and gives it.
+    /// Skips a text between two equal characters, and returns it.
     pub fn text(&mut self) -> Result<&'a [u8], Fault>
         ensures { Gives (λ x. (x.now, self.new)) result (take_text self.old) }
     {
@@ -190,7 +196,7 @@ impl<'a> Scanner<'a> {
         }
     }
 
-    /// Goes on to the comment, or to the end.
+    /// Skips all up to the comment, or to the end.
     pub fn skip_to_comment(&mut self)
         ensures { self.new ≡ comment_of self.old }
     {
@@ -205,7 +211,7 @@ impl<'a> Scanner<'a> {
         self.cuts.as_slice()
     }
 
-    /// Goes over blanks. Whether a sign comes next.
+    /// Skips blanks; true if a sign comes next.
     pub fn is_at_sign(&mut self) -> bool
         ensures is { result ≡ (meets 43 self.old || meets 45 self.old) }
         ensures rest { self.new ≡ skipped self.old }
@@ -217,7 +223,7 @@ impl<'a> Scanner<'a> {
         }
     }
 
-    /// Whether an expression comes next.
+    /// Skips blanks; true if an expression comes next.
     pub fn is_at_expression(&mut self) -> bool
         ensures is { result ≡ begins_expression (skipped self.old).rest }
         ensures rest { self.new ≡ skipped self.old }
@@ -229,7 +235,7 @@ impl<'a> Scanner<'a> {
         }
     }
 
-    /// Whether nothing is left but a comment.
+    /// Skips blanks; true if nothing is left but a comment.
     pub fn is_at_end(&mut self) -> bool
         ensures is { result ≡ is_at_end self.old.in_literal (skipped self.old).rest }
         ensures rest { self.new ≡ skipped self.old }

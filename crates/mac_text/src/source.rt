@@ -38,7 +38,7 @@ fn without_carriage_return(line: &[u8]) -> &[u8]
     }
 }
 
-/// Puts a line on which nothing stands at the end.
+/// Appends an empty line.
 fn add_line(alloc: Global, lines: &mut Vec<Line>) -> Result<(), AllocError>
     ensures { OnOk result ((line : Line) × (lines.new.items ≡ lines.old.items ++ line ∷ [])) }
 {
@@ -52,9 +52,8 @@ fn add_line(alloc: Global, lines: &mut Vec<Line>) -> Result<(), AllocError>
 
 /// The statements of a source, up to END: see the grammar in `specs/`.
 ///
-/// A source is lines, which a line feed ends; a carriage return right before it counts for nothing, and the last line
-/// counts where it is not empty. Lines behind END are not looked at. Where a line is not in the grammar, the first such
-/// line is told.
+/// A line feed ends a line; a carriage return right before it is dropped, and a last line without a line feed counts if it is
+/// not empty. Nothing behind END is read. The error names the first line that is not in the grammar.
 pub fn parse(alloc: Global, source: &[u8]) -> Result<Program, ParseError>
     ensures { Parses result (program_of source.now) }
 {

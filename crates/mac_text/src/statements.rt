@@ -4,8 +4,10 @@ ghost use Rattle.std.specs.Prelude.{◌≡◌, ◌≤◌, length};
 ghost use Rattle.std.specs.Str.{IsAscii};
 ghost use Rattle.mac_text.specs.Scan.{Gives, after_blanks, word_of, present, with_front, items_at};
 ghost use Rattle.mac_text.specs.declared.syntax.Data.TheVariants as data_of;
-ghost use Rattle.mac_text.specs.Statements.{with_data, index_at, operand_at, operands_at, is_allowed, instruction_at, pair_at, next_expression_at};
-ghost use Rattle.mac_text.specs.Statements.{expressions_at, decimal_at, number_at, point_at, value_at, form_at, formed_at, operation_of, statement_at};
+ghost use Rattle.mac_text.specs.Statements.{with_data, index_at, operand_at, operands_at, is_allowed};
+ghost use Rattle.mac_text.specs.Statements.{instruction_at, pair_at, next_expression_at};
+ghost use Rattle.mac_text.specs.Statements.{expressions_at, decimal_at, number_at, point_at, value_at};
+ghost use Rattle.mac_text.specs.Statements.{form_at, formed_at, operation_of, statement_at};
 ghost use Rattle.mac_text.specs.Names.{folded};
 ghost use Rattle.mac_text.specs.Keywords.{form_of};
 
@@ -14,7 +16,7 @@ use crate::fault::Fault;
 use crate::keyword::{Form, form_of};
 use crate::numbers::number;
 use crate::operations::operation;
-use crate::place::{clear, fill};
+use crate::optional::{clear, fill};
 use crate::scanner::Scanner;
 use crate::sequence::Sequence;
 use crate::sum::Expression;
@@ -26,14 +28,14 @@ use whole_numbers::Natural;
 /// The register of an address part: an expression in parentheses, or nothing.
 #[inline(always)]
 #[tactic(auto, unfolding(crate::specs::Statements::index_at))]
-fn index(scan: &mut Scanner<'_>, place: &mut Option<Expression>) -> Result<(), Fault>
-    ensures { Gives (λ _. (place.new, scan.new)) result (index_at scan.old) }
+fn index(scan: &mut Scanner<'_>, out: &mut Option<Expression>) -> Result<(), Fault>
+    ensures { Gives (λ _. (out.new, scan.new)) result (index_at scan.old) }
 {
     if !scan.eat(b'(') {
-        clear(place);
+        clear(out);
         return Ok(());
     }
-    fill(place, expression(scan)?);
+    fill(out, expression(scan)?);
     if !scan.eat(b')') {
         return Err(Fault::Syntax);
     }
@@ -43,12 +45,12 @@ fn index(scan: &mut Scanner<'_>, place: &mut Option<Expression>) -> Result<(), F
 /// An address part, of which each piece may be missing.
 #[inline(always)]
 #[tactic(auto, unfolding(crate::specs::Statements::operand_at))]
-fn operand(scan: &mut Scanner<'_>, place: &mut Operand) -> Result<(), Fault>
-    ensures { Gives (λ _. (place.new, scan.new)) result (operand_at scan.old) }
+fn operand(scan: &mut Scanner<'_>, out: &mut Operand) -> Result<(), Fault>
+    ensures { Gives (λ _. (out.new, scan.new)) result (operand_at scan.old) }
 {
-    place.indirect = scan.eat(b'@');
-    optional_expression(scan, &mut place.address)?;
-    index(scan, &mut place.index)?;
+    out.indirect = scan.eat(b'@');
+    optional_expression(scan, &mut out.address)?;
+    index(scan, &mut out.index)?;
     Ok(())
 }
 
@@ -57,18 +59,18 @@ fn operand(scan: &mut Scanner<'_>, place: &mut Operand) -> Result<(), Fault>
 fn operands(
     scan: &mut Scanner<'_>,
     accumulator: &mut Option<Expression>,
-    place: &mut Operand,
+    out: &mut Operand,
 ) -> Result<(), Fault>
-    ensures { Gives (λ _. ((accumulator.new, place.new), scan.new)) result (operands_at scan.old) }
+    ensures { Gives (λ _. ((accumulator.new, out.new), scan.new)) result (operands_at scan.old) }
 {
     optional_expression(scan, accumulator)?;
     if accumulator.is_none() || scan.eat(b',') {
-        operand(scan, place)?;
+        operand(scan, out)?;
         return Ok(());
     }
-    place.indirect = false;
-    place.address = accumulator.take();
-    index(scan, &mut place.index)?;
+    out.indirect = false;
+    out.address = accumulator.take();
+    index(scan, &mut out.index)?;
     Ok(())
 }
 
@@ -80,15 +82,15 @@ fn is_allowed(named: Named, accumulator: &Option<Expression>, operand: &Operand)
         && (named.addr || !operand.indirect && operand.address.is_none() && operand.index.is_none())
 }
 
-/// Reads what follows the name of an instruction, and puts the statement in place.
+/// Reads what follows the name of an instruction into `out`.
 #[inline(always)]
 #[tactic(auto, unfolding(crate::specs::Statements::instruction_at))]
 fn instruction(
     named: Named,
     scan: &mut Scanner<'_>,
-    place: &mut Option<Statement>,
+    out: &mut Option<Statement>,
 ) -> Result<(), Fault>
-    ensures { Gives (λ _. (place.new, scan.new)) result (present (with_data data_of.Instruction (instruction_at named scan.old))) }
+    ensures { Gives (λ _. (out.new, scan.new)) result (present (with_data data_of.Instruction (instruction_at named scan.old))) }
 {
     let bare = Instruction {
         word: named.word,
@@ -99,8 +101,8 @@ fn instruction(
             index: None,
         },
     };
-    fill(place, Statement::Data(Data::Instruction(bare)));
-    if let Some(Statement::Data(Data::Instruction(given))) = place {
+    fill(out, Statement::Data(Data::Instruction(bare)));
+    if let Some(Statement::Data(Data::Instruction(given))) = out {
         operands(scan, &mut given.accumulator, &mut given.operand)?;
         if is_allowed(named, &given.accumulator, &given.operand) {
             return Ok(());
@@ -196,17 +198,17 @@ fn point(scan: &mut Scanner<'_>) -> Result<Data, Fault>
     if !scan.eat(b',') {
         return Err(Fault::Syntax);
     }
-    let mut place = Operand {
+    let mut out = Operand {
         indirect: false,
         address: None,
         index: None,
     };
-    operand(scan, &mut place)?;
+    operand(scan, &mut out)?;
     if !scan.eat(b',') {
-        return Ok(Data::Point(size, place, None));
+        return Ok(Data::Point(size, out, None));
     }
     let position = lone_number(scan)?;
-    Ok(Data::Point(size, place, Some(position)))
+    Ok(Data::Point(size, out, Some(position)))
 }
 
 /// An expression, or two halves.
@@ -270,71 +272,71 @@ fn meaning(name: &[u8]) -> Option<Named>
     }
 }
 
-/// Reads an expression or two halves, and puts the statement in place.
+/// Reads an expression or two halves into `out`.
 #[inline(never)]
-fn value_statement(scan: &mut Scanner<'_>, place: &mut Option<Statement>) -> Result<(), Fault>
-    ensures { Gives (λ _. (place.new, scan.new)) result (present (with_data (λ d. d) (value_at scan.old))) }
+fn value_statement(scan: &mut Scanner<'_>, out: &mut Option<Statement>) -> Result<(), Fault>
+    ensures { Gives (λ _. (out.new, scan.new)) result (present (with_data (λ d. d) (value_at scan.old))) }
 {
-    fill(place, Statement::Data(value(scan)?));
+    fill(out, Statement::Data(value(scan)?));
     Ok(())
 }
 
-/// Reads what follows the name of a form, and puts the statement in place.
+/// Reads what follows the name of a form into `out`.
 #[inline(never)]
 fn formed_statement(
     form: Form,
     scan: &mut Scanner<'_>,
-    place: &mut Option<Statement>,
+    out: &mut Option<Statement>,
 ) -> Result<(), Fault>
-    ensures { Gives (λ _. (place.new, scan.new)) result (present (form_at form scan.old)) }
+    ensures { Gives (λ _. (out.new, scan.new)) result (present (form_at form scan.old)) }
 {
-    fill(place, form_statement(form, scan)?);
+    fill(out, form_statement(form, scan)?);
     Ok(())
 }
 
-/// Reads a statement that begins with this name, and puts it in place. The name tells its form or its operation; where
-/// it tells none, the statement is a value.
+/// Reads a statement that begins with this name into `out`. The name is that of a form or an operation; if it is neither, the
+/// statement is a value.
 #[inline(never)]
 fn named_statement(
     word: &[u8],
     scan: &mut Scanner<'_>,
-    place: &mut Option<Statement>,
+    out: &mut Option<Statement>,
 ) -> Result<(), Fault>
     requires ascii { IsAscii word.now }
     requires within { length word.now ≤ length scan.old.rest }
-    ensures { Gives (λ _. (place.new, scan.new)) result (present (formed_at (form_of (folded word.now)) word.now scan.old)) }
+    ensures { Gives (λ _. (out.new, scan.new)) result (present (formed_at (form_of (folded word.now)) word.now scan.old)) }
 {
     let name = folded(word);
     if let Some(form) = form_of(name.as_slice()) {
         scan.advance(word.len());
-        return formed_statement(form, scan, place);
+        return formed_statement(form, scan, out);
     }
     if let Some(named) = meaning(name.as_slice()) {
         scan.advance(word.len());
-        return instruction(named, scan, place);
+        return instruction(named, scan, out);
     }
-    value_statement(scan, place)
+    value_statement(scan, out)
 }
 
-/// Reads a statement that begins with this word, and puts it in place. Most begin with the name of an operation.
+/// Reads a statement that begins with this word into `out`. Most begin with the name of an operation.
 #[tactic(auto, unfolding(crate::specs::Statements::statement_at), using(crate::proofs::AsciiLemmas::word_is_ascii, crate::proofs::WordLemmas::word_passes, crate::proofs::WordLemmas::word_within))]
 pub fn statement(
     scan: &mut Scanner<'_>,
     word: &[u8],
-    place: &mut Option<Statement>,
+    out: &mut Option<Statement>,
 ) -> Result<(), Fault>
     requires skipped { after_blanks scan.old.rest ≡ scan.old.rest }
     requires word { word.now ≡ word_of scan.old.rest }
-    ensures { Gives (λ _. (place.new, scan.new)) result (present (statement_at scan.old)) }
+    ensures { Gives (λ _. (out.new, scan.new)) result (present (statement_at scan.old)) }
 {
     if !is_name(word) {
-        return value_statement(scan, place);
+        return value_statement(scan, out);
     }
     match operation(word) {
-        None => named_statement(word, scan, place),
+        None => named_statement(word, scan, out),
         Some(named) => {
             scan.advance(word.len());
-            instruction(named, scan, place)
+            instruction(named, scan, out)
         }
     }
 }

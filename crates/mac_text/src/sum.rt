@@ -5,7 +5,7 @@ ghost use Rattle.mac_text.specs.Terms.{alone, many_of, terms_of, terms_in};
 ghost use Rattle.mac_text.specs.declared.syntax.Sign.TheVariants.{Plus};
 ghost use Rattle.mac_text.specs.declared.syntax.Term.TheVariants.{Number, Label, Here};
 
-use crate::place::discard;
+use crate::optional::discard;
 use crate::symbol::Symbol;
 use crate::syntax::{Sign, SignedTerm, Term};
 use std::alloc::{AllocError, Global};

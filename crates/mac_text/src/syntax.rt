@@ -19,7 +19,7 @@ pub enum Sign {
 pub enum Term {
     Number(Natural),
     Label(Symbol),
-    /// The point: the place of the statement's first word.
+    /// The point: the address of the statement's first word.
     Here,
     /// `[statement]`: the literal of this number among those of its line, counted from 0.
     Literal(usize),
@@ -86,7 +86,7 @@ pub enum Data {
 #[derive(Debug, Drop)]
 pub enum Statement {
     Data(Data),
-    /// `LOC place`.
+    /// `LOC address`.
     Loc(Expression),
     /// `END [start]`.
     End(Option<Expression>),

@@ -15,12 +15,12 @@ pub fn text_of(bytes: &[u8]) -> Option<(&[u8], &[u8])>
 {
     let bytes = &bytes[blanks_len(bytes)..];
     let (delimiter, body) = bytes.split_first()?;
-    let end = place_of(*delimiter, body)?;
+    let end = position_of(*delimiter, body)?;
     Some((&body[..end], &body[end + 1..]))
 }
 
-/// The place of the first byte of this kind.
-fn place_of(byte: u8, text: &[u8]) -> Option<usize>
+/// The position of the first byte that is equal to `byte`.
+fn position_of(byte: u8, text: &[u8]) -> Option<usize>
     ensures value { result ≡ position (λ c. c == byte) text.now }
     ensures within { IfSome result (λ i. i < length text.now) }
 {
@@ -34,7 +34,7 @@ pub fn literal_len(bytes: &[u8]) -> Option<usize>
     ensures within { IfSome result (λ n. n < length bytes.now) }
 {
     let behind = behind_text(bytes)?;
-    let more = place_of(b']', behind)?;
+    let more = position_of(b']', behind)?;
     Some(bytes.len() - behind.len() + more)
 }
 

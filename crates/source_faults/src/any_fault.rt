@@ -6,24 +6,24 @@ use std::fmt;
 /// What is wrong with a line of some language, which has its own reasons.
 #[derive(Clone, Copy)]
 pub struct FaultOf<R> {
-    /// The column where it is, counted from 1, or 0 where it is in no one place.
+    /// Its column, counted from 1, or 0 if it has none.
     pub column: usize,
     /// What it is.
     pub reason: R,
 }
 
 impl<R> FaultOf<R> {
-    /// A fault in a place.
+    /// A fault at a column.
     pub fn at(column: usize, reason: R) -> Self {
         FaultOf { column, reason }
     }
 
-    /// A fault in no one place.
+    /// A fault of the whole line.
     pub fn whole(reason: R) -> Self {
         FaultOf { column: 0, reason }
     }
 
-    /// The fault with its column moved, if need be, into a line of so many bytes or just behind it.
+    /// The fault with its column limited to a line of `length` bytes or just behind it.
     pub fn within(self, length: usize) -> Self
         ensures { result.column ≤ length + 1 }
     {

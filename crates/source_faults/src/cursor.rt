@@ -2,7 +2,7 @@
 
 use crate::fault::{Fault, Reason};
 
-/// What a statement gives, as far as its values have to fit.
+/// The kinds of statements, by the values that have to fit.
 #[derive(Clone, Copy, PartialEq, Eq)]
 pub enum Kind {
     /// No statement.
@@ -42,7 +42,7 @@ pub struct Cursor<'a> {
     column: usize,
     radix: u8,
     in_literal: bool,
-    /// What its statement gives.
+    /// The kind of its statement.
     pub kind: Kind,
     /// The last label at its head.
     pub label: Option<&'a [u8]>,
@@ -93,7 +93,7 @@ impl<'a> Cursor<'a> {
         self.in_literal
     }
 
-    /// Goes over so many bytes, where there are as many.
+    /// Skips as many bytes, or all that are left.
     pub fn advance(&mut self, n: usize) {
         let rest = self.rest;
         let n = n.min(rest.len());
@@ -101,7 +101,7 @@ impl<'a> Cursor<'a> {
         self.column = self.column.saturating_add(n);
     }
 
-    /// Goes over blanks.
+    /// Skips blanks.
     pub fn skip(&mut self) {
         self.advance(blanks_len(self.rest));
     }
@@ -111,7 +111,7 @@ impl<'a> Cursor<'a> {
         self.rest.first().copied()
     }
 
-    /// Goes over blanks, and over this byte where it comes next.
+    /// Skips blanks, and then this byte if it comes next; true if it did.
     pub fn eat(&mut self, byte: u8) -> bool {
         self.skip();
         let met = self.head() == Some(byte);
@@ -151,7 +151,7 @@ impl<'a> Cursor<'a> {
         Fault::at(self.column, Reason::Expected(wanted, found))
     }
 
-    /// The fault that a sentence says of what stands here.
+    /// The fault that a sentence tells of the bytes here.
     pub fn said(&self, sentence: &'static str) -> Fault<'a> {
         Fault::at(self.column, Reason::Said(sentence))
     }
@@ -175,7 +175,7 @@ impl<'a> Cursor<'a> {
         }
     }
 
-    /// Notes a literal, and goes over it and its bracket.
+    /// Notes a literal, and skips it and its bracket.
     pub fn cut(&mut self, length: usize) {
         let rest = self.rest;
         let cut = Cut {

@@ -14,7 +14,7 @@ pub enum Reason<'a> {
     Said(&'static str),
     /// Something else is expected where these bytes stand, or where the line ends.
     Expected(&'static str, &'a [u8]),
-    /// These bytes are not what the sentence says.
+    /// These bytes, and a sentence about them.
     Is(&'a [u8], &'static str),
     /// One of these names, or of more behind them, is not defined.
     OneOf(&'a [u8], &'a [u8], bool),

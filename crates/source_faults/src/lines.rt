@@ -57,14 +57,14 @@ fn first_of<'a>(one: Result<(), Fault<'a>>, other: Result<(), Fault<'a>>) -> Res
     }
 }
 
-/// What there is to see of a line that is in the grammar.
+/// The fault of a line that is in the grammar: none is found.
 fn seen(line: &[u8]) -> Cursor<'_> {
     let (cursor, _) = read(line, 10);
     cursor
 }
 
-/// What is not in the grammar. The radix in which the line was read is not known: the first that
-/// shows a fault is taken, of ten, eight and two.
+/// The fault of a line that is not in the grammar. The radix of its numbers is not known: of ten, eight and two the first that
+/// shows a fault is taken.
 fn syntax_of(line: &[u8]) -> Fault<'_> {
     if let Some(column) = column_not_ascii(line) {
         return Fault::at(column, Reason::Said(NOT_ASCII));

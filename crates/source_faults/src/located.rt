@@ -1,21 +1,21 @@
-//! What is wrong with a line, and the column to look at.
+//! What is wrong with a line, and at which column.
 ghost use Rattle.std.specs.Prelude.{◌≤◌, ◌+◌, IfOk, length};
 
 use crate::fault::{Fault, Reason};
 use crate::lines::fault_of;
 use std::alloc::{AllocError, Global};
 
-/// What is wrong with a line, and where to look.
+/// What is wrong with a line, and at which column.
 #[derive(Debug, Drop)]
 pub struct Located {
-    /// The column, counted from 1: that of the fault or of the name that it speaks of, and else of the
-    /// first character that is no blank.
+    /// The column, counted from 1: that of the fault, or of the name that it is about, or else of the first character that is
+    /// no blank.
     pub column: usize,
     /// What is wrong.
     pub text: String,
 }
 
-/// The place where some bytes begin in a line first.
+/// The position at which some bytes first begin in a line.
 fn position_of(line: &[u8], wanted: &[u8]) -> Option<usize> {
     for start in 0..line.len() {
         if line[start..].starts_with(wanted) {
@@ -25,14 +25,14 @@ fn position_of(line: &[u8], wanted: &[u8]) -> Option<usize> {
     None
 }
 
-/// The place of the first character that is no blank.
+/// The position of the first character that is no blank.
 fn first_character(line: &[u8]) -> usize {
     line.iter()
         .position(|c| *c != b' ' && *c != b'\t')
         .unwrap_or(0)
 }
 
-/// The column to look at, in the line or just behind it.
+/// The column of a fault in any case, in the line or just behind it.
 fn column_of(line: &[u8], fault: &Fault<'_>) -> usize
     ensures { result ≤ length line.now + 1 }
 {
@@ -47,8 +47,8 @@ fn column_of(line: &[u8], fault: &Fault<'_>) -> usize
     start.min(line.len()).saturating_add(1)
 }
 
-/// Says what is wrong with a line, which stands without its line end and has a fault of this code, 1 to
-/// 7, and which column to look at. It fails for want of memory alone.
+/// Says what is wrong with a line that has no line end and a fault of this code, 1 to 7, and at which column in any case. It
+/// fails only where there is no memory.
 pub fn locate(alloc: Global, code: u8, line: &[u8]) -> Result<Located, AllocError>
     ensures { IfOk result (λ located. located.column ≤ length line.now + 1) }
 {
@@ -60,8 +60,7 @@ pub fn locate(alloc: Global, code: u8, line: &[u8]) -> Result<Located, AllocErro
     })
 }
 
-/// Says what is wrong with such a line, and in which column where that is known. It fails for want of
-/// memory alone.
+/// Says what is wrong with such a line, and in which column if that is known. It fails only where there is no memory.
 pub fn explain(alloc: Global, code: u8, line: &[u8]) -> Result<String, AllocError> {
     let fault = fault_of(line, code);
     format!(in alloc; "{fault}")

@@ -75,7 +75,7 @@ fn is_text_form(word: &[u8]) -> bool {
         || word.eq_ignore_ascii_case(b"SIXBIT")
 }
 
-/// Reads a text between two equal characters, and gives how many it has.
+/// Reads a text between two equal characters, and returns how many characters it has.
 pub fn read_text<'a>(cursor: &mut Cursor<'a>) -> Result<usize, Fault<'a>> {
     cursor.skip();
     let Some((delimiter, body)) = cursor.rest().split_first() else {
@@ -148,7 +148,7 @@ pub fn read_expression<'a>(cursor: &mut Cursor<'a>) -> Result<(), Fault<'a>> {
     Ok(())
 }
 
-/// Reads an expression where one begins, and says whether it did.
+/// Reads an expression if one comes next; true if it did.
 pub fn read_optional<'a>(cursor: &mut Cursor<'a>) -> Result<bool, Fault<'a>> {
     cursor.skip();
     let begins = match cursor.head() {
@@ -161,7 +161,7 @@ pub fn read_optional<'a>(cursor: &mut Cursor<'a>) -> Result<bool, Fault<'a>> {
     Ok(begins)
 }
 
-/// Reads a register in parentheses where there is one, and says whether there was.
+/// Reads a register in parentheses if one comes next; true if it did.
 pub fn read_index<'a>(cursor: &mut Cursor<'a>) -> Result<bool, Fault<'a>> {
     if !cursor.eat(b'(') {
         return Ok(false);
@@ -171,7 +171,7 @@ pub fn read_index<'a>(cursor: &mut Cursor<'a>) -> Result<bool, Fault<'a>> {
     Ok(true)
 }
 
-/// Reads an address part, and says whether any piece of it was there.
+/// Reads an address part; true if any piece of it was there.
 pub fn read_operand<'a>(cursor: &mut Cursor<'a>) -> Result<bool, Fault<'a>> {
     let indirect = cursor.eat(b'@');
     let address = read_optional(cursor)?;

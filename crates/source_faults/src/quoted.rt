@@ -1,11 +1,11 @@
-//! Bytes of a line, as what is said of it shows them.
+//! Bytes of a line, as a sentence about it shows them.
 
 use std::fmt;
 
 /// The most bytes of a line that are quoted.
 const MOST_QUOTED: usize = 40;
 
-/// What is said of a byte that is not ASCII.
+/// The sentence for a byte that is not ASCII.
 pub const NOT_ASCII: &str = "a byte that is not ASCII";
 
 /// The column of the first byte of a line that is not ASCII, if there is one.
@@ -42,8 +42,7 @@ fn write_byte<W: fmt::Write>(f: &mut fmt::Formatter<W>, byte: u8) -> fmt::Result
     }
 }
 
-/// Behind what is expected: `, not ` and the bytes that stand in its place. Where the line ends there
-/// are none, and nothing is written.
+/// What follows the expected: `, not ` and the bytes that were found, or nothing at the end of the line.
 #[derive(Clone, Copy)]
 pub struct Found<'a>(pub &'a [u8]);
 

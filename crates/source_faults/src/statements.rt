@@ -37,7 +37,7 @@ enum Form {
 }
 
 impl Form {
-    /// Whether it gives no words wherever it stands.
+    /// Whether it never gives words.
     fn gives_none(self) -> bool {
         matches!(self, Form::Loc | Form::End | Form::Radix | Form::Title)
     }
@@ -146,7 +146,7 @@ fn read_named_value<'a>(name: &'a [u8], cursor: &mut Cursor<'a>) -> Result<(), F
     Ok(())
 }
 
-/// Whether what is left looks like what stands behind an operation.
+/// Whether the rest of the line looks like an operation's operands.
 fn is_call_like(cursor: &mut Cursor<'_>) -> bool {
     cursor.skip();
     match cursor.head() {
@@ -207,7 +207,7 @@ fn read_value<'a>(cursor: &mut Cursor<'a>) -> Result<(), Fault<'a>> {
     read_expression(cursor)
 }
 
-/// Reads a statement with a name of its own, and looks that it may stand where it does.
+/// Reads a statement with a name of its own, and checks that it may stand where it does.
 fn read_form<'a>(form: Form, name: &'a [u8], cursor: &mut Cursor<'a>) -> Result<(), Fault<'a>> {
     let column = cursor.column();
     cursor.advance(name.len());
@@ -257,7 +257,7 @@ fn read_halves<'a>(cursor: &mut Cursor<'a>) -> Result<(), Fault<'a>> {
     read_expression(cursor)
 }
 
-/// Goes to the comment.
+/// Skips all up to the comment.
 fn read_title(cursor: &mut Cursor<'_>) {
     let rest = cursor.rest();
     match rest.iter().position(|c| *c == b';') {

@@ -38,10 +38,10 @@ returns-in_err-image-clause-image c =
     c.in_ok-layout.ensures
     (subst
     (λ literals. Assembles (Err c.in_err-image.field-0.0)
-    (outcome_placed (lines_with layout.labels.entries layout.places.items literals lines))) c.as_slice-2.ensures.value
+    (outcome_placed (lines_with layout.labels.entries layout.addresses.items literals lines))) c.as_slice-2.ensures.value
     (subst
-    (λ places. Assembles (Err c.in_err-image.field-0.0)
-    (outcome_placed (lines_with layout.labels.entries places c.as_slice-2.result.now lines))) c.as_slice.ensures.value
+    (λ addresses. Assembles (Err c.in_err-image.field-0.0)
+    (outcome_placed (lines_with layout.labels.entries addresses c.as_slice-2.result.now lines))) c.as_slice.ensures.value
     c.in_err-image.ensures)))
 
 pub returns-clause-image : goal.returns-clause-image
@@ -51,9 +51,9 @@ returns-clause-image c =
     let image = c.in_ok-image.image in
     told (Ok image) c.args.source.now lines layout (c.in_ok-program.ensures ∙ ap Ok (sym c.as_slice-lines.ensures))
     (sym c.has_end.ensures ∙ c.if-not-has_end.false) c.in_ok-layout.ensures
-    (subst (λ literals. Assembles (Ok image) (outcome_placed (lines_with layout.labels.entries layout.places.items literals lines))) c.as_slice-2.ensures.value
+    (subst (λ literals. Assembles (Ok image) (outcome_placed (lines_with layout.labels.entries layout.addresses.items literals lines))) c.as_slice-2.ensures.value
     (subst
-    (λ places. Assembles (Ok image) (outcome_placed (lines_with layout.labels.entries places c.as_slice-2.result.now lines)))
+    (λ addresses. Assembles (Ok image) (outcome_placed (lines_with layout.labels.entries addresses c.as_slice-2.result.now lines)))
     c.as_slice.ensures.value c.in_ok-image.ensures))
 
 pub returns-clause-symbols : goal.returns-clause-symbols

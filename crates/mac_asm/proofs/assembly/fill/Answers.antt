@@ -8,7 +8,7 @@ use Rattle.mac_asm.proofs.assembly.fill.Goals as goal
 
 pub returns-in_err-start : goal.returns-in_err-start
 returns-in_err-start c =
-    let lines = lines_with c.args.labels.now.entries c.args.places.now c.args.literals.now c.args.lines.now in
+    let lines = lines_with c.args.labels.now.entries c.args.addresses.now c.args.literals.now c.args.lines.now in
     let told = err_from_is_err_and c.from_residual-in_err-start.result c.from_residual-in_err-start.ensures.1 in
     subst (λ r. Assembles r (outcome_placed lines)) (sym (told.1 ∙ ap Err told.2))
     (outcome_fails c.in_err-start.field-0.0 lines c.in_ok-with_room.field-0 c.put_lines.new.self.cells c.in_err-start.ensures)
@@ -16,6 +16,6 @@ returns-in_err-start c =
 pub returns : goal.returns
 returns c =
     outcome_filled 262144 c.in_ok-start.start
-    (lines_with c.args.labels.now.entries c.args.places.now c.args.literals.now c.args.lines.now) c.in_ok-with_room.field-0
+    (lines_with c.args.labels.now.entries c.args.addresses.now c.args.literals.now c.args.lines.now) c.in_ok-with_room.field-0
     c.put_lines.new.self.cells c.in_ok-words.field-0.items refl c.in_ok-with_room.ensures c.in_ok-start.ensures
     c.in_ok-words.ensures

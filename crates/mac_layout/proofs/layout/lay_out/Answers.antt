@@ -1,6 +1,6 @@
 use Rattle.std.proofs.Common.{◌∙◌, sym, ap, map}
 use Rattle.mac_layout.specs.LaidOut.{with_line, count_or}
-use Rattle.mac_layout.specs.Places.{places_from}
+use Rattle.mac_layout.specs.Addresses.{addresses_from}
 use Rattle.mac_layout.proofs.LayoutLemmas.{line_goes_on, line_fails, lines_done}
 use Rattle.mac_layout.proofs.layout.lay_out.Goals as goal
 
@@ -28,9 +28,9 @@ returns c =
       layout = s;
       is = lines_done s c.args.lines.now c.loop-i.i _ c.loop-i-test.false c.loop-i.invariant.2;
       labels = m.labels;
-      places = m.places;
+      addresses = m.addresses;
       literals =
           c.in_ok-literals.ensures
-          ∙ ap (λ n. places_from n (map (count_or 0) c.deref.result.now)) m.place
-          ∙ ap (λ l. places_from s.place (map (count_or 0) l)) (c.deref.ensures.value ∙ m.sizes);
+          ∙ ap (λ n. addresses_from n (map (count_or 0) c.deref.result.now)) m.address
+          ∙ ap (λ l. addresses_from s.address (map (count_or 0) l)) (c.deref.ensures.value ∙ m.sizes);
     }

@@ -8,4 +8,4 @@ use Rattle.mac_layout.proofs.layout.literals_code.Given as goal
 abbrev pub invariant-loop-size : goal.invariant-loop-size
 invariant-loop-size l =
     (past : List ℕ) → AreMarks l.taken past
-    → least l.code (all_apart past l.at (drop l.size-index l.sizes)) ≡ all_apart past l.place l.sizes
+    → least l.code (all_apart past l.at (drop l.size-index l.sizes)) ≡ all_apart past l.address l.sizes

@@ -8,5 +8,5 @@ returns c = λ past m.
     let k : length
     (take (c.part-first.result.0 + c.part-first.result.1 - c.part-first.result.0)
     (drop c.part-first.result.0 c.args.taken.now)) ≡ c.part-first.result.1 = simp (length-take, length-drop) (omega arith) in
-    marked c.args.taken.now c.fill.new.self past c.args.place.now c.args.size.now c.part-first.result.0 c.part-first.result.1 _ m c.part-first.ensures.within n
-    (c.fill.ensures.after (λ y h. h) ∙ ap (λ j. replicate j true) k) c.part-first.ensures.places
+    marked c.args.taken.now c.fill.new.self past c.args.address.now c.args.size.now c.part-first.result.0 c.part-first.result.1 _ m c.part-first.ensures.within n
+    (c.fill.ensures.after (λ y h. h) ∙ ap (λ j. replicate j true) k) c.part-first.ensures.addresses

@@ -7,5 +7,5 @@ use Rattle.mac_text.proofs.line.labels.Given as goal
 abbrev pub invariant-loop : goal.invariant-loop
 invariant-loop l =
     (length l.scan.rest + l.counter ≤ l.most)
-    × (with_front l.place (items_at next_label_at (l.most - l.counter) l.scan)
+    × (with_front l.out (items_at next_label_at (l.most - l.counter) l.scan)
     ≡ items_at next_label_at (length l.fn.scan.rest) l.fn.scan)

@@ -27,7 +27,7 @@ returns-in-Err-Syntax c =
 pub returns-then-is_end : goal.returns-then-is_end
 returns-then-is_end c =
     let front = c.loop-rest.lines.items in
-    let line = c.read_line.new.place in
+    let line = c.read_line.new.out in
     let empty = c.in_ok-add_line.ensures in
     let at : c.len-at.result ≡ length c.loop-rest.lines.items = omega arith in
     let all = placed front c.add_line.new.lines.items empty.0 line c.len-at.result at empty.1 in
@@ -40,7 +40,7 @@ returns-then-is_end c =
 pub loop-rest-preserved : goal.loop-rest-preserved
 loop-rest-preserved c =
     let front = c.loop-rest.lines.items in
-    let line = c.read_line.new.place in
+    let line = c.read_line.new.out in
     let empty = c.in_ok-add_line.ensures in
     let at : c.len-at.result ≡ length c.loop-rest.lines.items = omega arith in
     let all = placed front c.add_line.new.lines.items empty.0 line c.len-at.result at empty.1 in

@@ -10,17 +10,17 @@ returns-in_default c =
 
 pub returns-then-not-branch : goal.returns-then-not-branch
 returns-then-not-branch c =
-    literal_fails (names_of c.args.scope.now) c.args.scope.now.literals.now c.args.literals.now c.loop-i.i c.in-Some.place.now
+    literal_fails (names_of c.args.scope.now) c.args.scope.now.literals.now c.args.literals.now c.loop-i.i c.in-Some.address.now
     c.index-literals-i.result c.loop-i.self.cells c.args.self.now.cells c.loop-i-test.true
-    (item_at c.args.scope.now.literals.now c.loop-i.i c.in-Some.place.now c.in-Some.ensures.lookup.0
+    (item_at c.args.scope.now.literals.now c.loop-i.i c.in-Some.address.now c.in-Some.ensures.lookup.0
     c.in-Some.ensures.lookup.1) (sym c.index-literals-i.is)
     (rw c.if-not-branch.true at c.in_ok-put.ensures) c.loop-i.invariant
 
 pub loop-i-preserved : goal.loop-i-preserved
 loop-i-preserved c =
-    literal_put (names_of c.args.scope.now) c.args.scope.now.literals.now c.args.literals.now c.loop-i.i c.in-Some.place.now
+    literal_put (names_of c.args.scope.now) c.args.scope.now.literals.now c.args.literals.now c.loop-i.i c.in-Some.address.now
     c.index-literals-i.result c.loop-i.self.cells c.put.new.self.cells _ c.loop-i-test.true
-    (item_at c.args.scope.now.literals.now c.loop-i.i c.in-Some.place.now c.in-Some.ensures.lookup.0
+    (item_at c.args.scope.now.literals.now c.loop-i.i c.in-Some.address.now c.in-Some.ensures.lookup.0
     c.in-Some.ensures.lookup.1) (sym c.index-literals-i.is)
     (rw c.if-not-branch.false at c.in_ok-put.ensures) c.loop-i.invariant
 

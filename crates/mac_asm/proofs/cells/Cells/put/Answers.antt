@@ -8,7 +8,7 @@ loop-word-init c = (
   omega (arith, c.clamped-at.ensures),
   sym c.len-len.ensures.cells,
   ap (λ p. put_from c.args.self.now p c.args.words.now) c.clamped-at.ensures
-      ∙ put_clamped c.args.self.now c.args.place.now _ c.args.words.now c.len-len.ensures.cells,
+      ∙ put_clamped c.args.self.now c.args.address.now _ c.args.words.now c.len-len.ensures.cells,
 )
 
 pub returns-then-at-len : goal.returns-then-at-len

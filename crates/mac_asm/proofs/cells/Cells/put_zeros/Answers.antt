@@ -8,7 +8,7 @@ use Rattle.mac_asm.proofs.cells.Cells.put_zeros.Goals as goal
 pub loop-at-init : goal.loop-at-init
 loop-at-init c = (
   sym c.len-len.ensures.cells,
-  zeros_begin c.args.self.now c.args.place.now c.clamped-first.result c.args.count.now _ c.clamped-first.ensures
+  zeros_begin c.args.self.now c.args.address.now c.clamped-first.result c.args.count.now _ c.clamped-first.ensures
       c.len-len.ensures.cells,
 )
 

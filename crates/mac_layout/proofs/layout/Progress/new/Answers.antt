@@ -6,8 +6,8 @@ pub returns : goal.returns
 returns c = record {
   labels = c.in_ok-with_capacity.ensures.empty;
   apart = apart_nil;
-  place = c.from_u64.ensures;
-  places = c.in_ok-with_capacity-2.ensures.items;
+  address = c.from_u64.ensures;
+  addresses = c.in_ok-with_capacity-2.ensures.items;
   taken = unmarked_all c.in_ok-vec.field-0.items _ refl (c.in_ok-vec.ensures.items_if_clones_equal (λ y h. h));
   sizes = c.new.ensures.items;
 }

@@ -1,14 +1,14 @@
-//! The places of a job's memory.
+//! The addresses of a job's memory.
 
 ghost use Rattle.std.specs.Prelude.{◌≡◌, min};
 
 use whole_numbers::Natural;
 use word36::ADDRESSES;
 
-/// How many places there are: an address has 18 bits.
-pub const PLACES: usize = ADDRESSES as usize;
+/// How many addresses there are: an address has 18 bits.
+pub const MEMORY_SIZE: usize = ADDRESSES as usize;
 
-/// The place of the first statement, and the start where END names none.
+/// The address of the first statement, and the start where END names none.
 pub const FIRST: u32 = 0o140;
 
 /// The lesser of a number and `most`.

@@ -2,7 +2,7 @@ use Rattle.std.proofs.Common.{◌∙◌, sym, ap, refl, subst, Some}
 use Rattle.mac_layout.specs.LaidOut.{taking_all}
 use Rattle.mac_layout.specs.Layouts.{AreMarks}
 use Rattle.mac_layout.proofs.LayoutLemmas.{if_ok_more, lays_data, lays_loc_not, lays_loc, lays_radix, lays_end, lays_title, lays_nothing}
-use Rattle.mac_layout.proofs.layout.Progress.place_statement.Goals as goal
+use Rattle.mac_layout.proofs.layout.Progress.lay_out_statement.Goals as goal
 
 pub returns-in_default : goal.returns-in_default
 returns-in_default c = lays_nothing c.args.self.now c.args.statement.now c.in_default.is
@@ -20,7 +20,7 @@ returns-in-Err c =
 
 pub returns-in-Ok : goal.returns-in-Ok
 returns-in-Ok c =
-    lays_loc c.args.self.now _ c.args.statement.now _ c.in-Ok.place (c.in-Some.is ∙ ap Some c.in-Loc.is) (sym c.in-Ok.is ∙ c.in_ok-code-in-Loc.ensures)
+    lays_loc c.args.self.now _ c.args.statement.now _ c.in-Ok.address (c.in-Some.is ∙ ap Some c.in-Loc.is) (sym c.in-Ok.is ∙ c.in_ok-code-in-Loc.ensures)
     refl refl refl refl refl
 
 pub returns-in-Radix : goal.returns-in-Radix
@@ -30,7 +30,7 @@ pub returns-in-End : goal.returns-in-End
 returns-in-End c =
     if_ok_more _ _
     (λ code h. lays_end c.args.self.now c.args.statement.now _ code (c.in-Some.is ∙ ap Some c.in-End.is)
-    (λ past m. h past (subst (λ l. AreMarks l past) (sym c.deref.ensures.value) m) ∙ ap (taking_all past c.args.self.now.place) c.deref-in-End.ensures.value))
+    (λ past m. h past (subst (λ l. AreMarks l past) (sym c.deref.ensures.value) m) ∙ ap (taking_all past c.args.self.now.address) c.deref-in-End.ensures.value))
     c.literals_code.result c.literals_code.ensures
 
 pub returns-in-Title : goal.returns-in-Title

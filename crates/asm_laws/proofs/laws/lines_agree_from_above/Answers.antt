@@ -1,5 +1,5 @@
 use Rattle.asm_laws.proofs.MetLines.{lines-met}
-use Rattle.asm_laws.proofs.laws.lines_are_met.Goals as goal
+use Rattle.asm_laws.proofs.laws.lines_agree_from_above.Goals as goal
 
 pub returns : goal.returns
 returns c = lines-met

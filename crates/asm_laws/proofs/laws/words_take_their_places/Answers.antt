@@ -1,5 +1,0 @@
-use Rattle.asm_laws.proofs.Taken.{takes_its_places}
-use Rattle.asm_laws.proofs.laws.words_take_their_places.Goals as goal
-
-pub returns : goal.returns
-returns c = takes_its_places
