@@ -1,18 +1,13 @@
-//! What is wrong with a line of a script that was refused, in words for a person: worked out from the
-//! line alone.
+//! What is wrong with a refused line of a script of `lockmon queue` or `lockmon run`, in words for a person: worked out from
+//! the line alone.
 #![tactic(auto)]
 
 ghost use Rattle.std.specs.Prelude.{◌≤◌, ◌+◌, length};
 
-mod fault;
-mod items;
-mod locks;
-mod params;
-mod queue_lines;
+mod commands;
 mod run_lines;
-mod tables;
 
-use fault::Fault;
+use queue_faults::Fault;
 use std::alloc::{AllocError, Global};
 
 /// Whose line was refused.
@@ -24,22 +19,25 @@ pub enum Refused {
     Run,
 }
 
-/// What is told where a script ends before ENDASM.
+/// The text for a script that ends before ENDASM.
 pub const NO_ENDASM: &str = "the input ends before ENDASM";
 
-/// Says what is wrong with a line, which stands without its line end, and in which column where that
-/// is known. It fails for want of memory alone.
+/// Says what is wrong with a line, which has no line end, and in which column where that is known. It fails only where there
+/// is no memory.
 pub fn explain(alloc: Global, refused: Refused, line: &[u8]) -> Result<String, AllocError> {
-    let fault = fault_of(refused, line);
+    match refused {
+        Refused::Queue => queue_faults::explain(alloc, line),
+        Refused::Run => explain_run(alloc, line),
+    }
+}
+
+fn explain_run(alloc: Global, line: &[u8]) -> Result<String, AllocError> {
+    let fault = fault_of(line);
     format!(in alloc; "{fault}")
 }
 
-fn fault_of(refused: Refused, line: &[u8]) -> Fault<'_>
+fn fault_of(line: &[u8]) -> Fault<'_>
     ensures { result.column ≤ length line.now + 1 }
 {
-    let fault = match refused {
-        Refused::Queue => queue_lines::fault_of(line),
-        Refused::Run => run_lines::fault_of(line),
-    };
-    fault.within(line.len())
+    run_lines::fault_of(line).within(line.len())
 }

@@ -1,12 +1,12 @@
-//! Lines of `lockmon run`.
+//! Lines of a script of `lockmon run`.
 
-use crate::fault::{Fault, Reason};
-use crate::items::{Item, Items, check_blanks, check_form};
-use crate::params::{Param, check_param, check_params};
-use crate::tables::{RUN_COMMANDS, RUN_NAMES, params_of, unknown};
+use crate::commands::{COMMANDS, LINE, NAMES};
+use queue_faults::{
+    Fault, Item, Items, Reason, check_blanks, check_form, check_param, check_params, params_of,
+};
 use script_io::is_silent;
 
-/// What is wrong with a line. Where it is in the grammar it names an image that is not there.
+/// What is wrong with a line. A refused line that is in the grammar is a LOGIN of an image that is not there.
 pub fn fault_of(line: &[u8]) -> Fault<'_> {
     match check(line) {
         Err(fault) => fault,
@@ -17,7 +17,7 @@ pub fn fault_of(line: &[u8]) -> Fault<'_> {
     }
 }
 
-/// No image has the name that stands behind a line's number.
+/// The fault of a LOGIN whose image is not there; `rest` is what follows `LOGIN `.
 fn no_image(rest: &[u8]) -> Fault<'_> {
     let name = Item {
         text: rest,
@@ -52,20 +52,18 @@ fn check(line: &[u8]) -> Result<(), Fault<'_>> {
     })
 }
 
-/// Looks at a command and at what it takes.
+/// Checks a command and what it takes.
 fn check_command(line: Item<'_>) -> Result<(), Fault<'_>> {
     let mut items = Items::of(line, b' ');
     let name = items.wanted("a command")?;
-    match params_of(&RUN_COMMANDS, name.text) {
-        None => Err(unknown(&RUN_COMMANDS, name, RUN_NAMES)),
-        Some(params) => check_params(params, &mut items),
-    }
+    let params = params_of(&COMMANDS, NAMES, name)?;
+    check_params(params, &mut items)
 }
 
-/// Looks at what follows `TYPE `: a line and a text, whose spaces count.
+/// Checks what follows `TYPE `: a terminal line and a text, whose spaces count.
 fn check_typed(item: Item<'_>) -> Result<(), Fault<'_>> {
     let (line, text) = item.cut(b' ');
-    check_param(Param::Line, &mut Items::of(line, b' '))?;
+    check_param(LINE, &mut Items::of(line, b' '))?;
     let end = Item {
         text: &[],
         column: line.column.saturating_add(line.text.len()),
@@ -82,7 +80,7 @@ const TEXT: &str = "a text behind one space";
 const BACKSLASH: &str =
     "behind a backslash stands n, r, e, a backslash or three octal digits to 177";
 
-/// Looks at the backslashes of a text.
+/// Checks the backslashes of a text.
 fn check_text(item: Item<'_>) -> Result<(), Fault<'_>> {
     let mut rest = item;
     for _ in 0..item.text.len() {

@@ -26,9 +26,9 @@ count_of text = number 10 1000000 text
 abbrev pub address_of : List ℕ → Option ℕ
 address_of text = number 8 (2 ^ 18 - 1) text
 
--- the place of a word that all jobs share
-abbrev pub data_place_of : List ℕ → Option ℕ
-data_place_of text = number 10 (DATA_WORDS - 1) text
+-- the number of a word that all jobs share
+abbrev pub data_number_of : List ℕ → Option ℕ
+data_number_of text = number 10 (DATA_WORDS - 1) text
 
 -- ---- what follows a command's name
 
@@ -61,7 +61,7 @@ shown_by what =
 
 -- EXAMINE: `j a`
 abbrev pub examine_of : List (List ℕ) → Option Command
-examine_of (job ∷ place ∷ []) = option_and_then (λ j. option_map (λ a. command.Examine j a) (address_of place)) (byte_of job)
+examine_of (job ∷ address ∷ []) = option_and_then (λ j. option_map (λ a. command.Examine j a) (address_of address)) (byte_of job)
 examine_of _ = None
 
 abbrev pub is_space : ℕ → Bool
@@ -118,14 +118,14 @@ command_with keyword.Kill rest = option_map command.Kill (in_one byte_of rest)
 command_with keyword.Restart rest = alone command.Restart rest
 command_with keyword.Show rest = in_one shown_by rest
 command_with keyword.Examine rest = examine_of rest
-command_with keyword.Data rest = option_map command.Data (in_one data_place_of rest)
+command_with keyword.Data rest = option_map command.Data (in_one data_number_of rest)
 command_with keyword.Quit rest = alone command.Quit rest
 
 abbrev pub command_of_items : List (List ℕ) → Option Command
 command_of_items [] = None
 command_of_items (name ∷ rest) = option_and_then (λ k. command_with k rest) (keyword_of name)
 
--- what a line asks for, where it is in the grammar: a text behind `TYPE `, or items parted by single spaces
+-- the command of a line that is in the grammar: a text behind `TYPE `, or items between single spaces
 unfoldable pub command_of : List ℕ → Option Command
 command_of line =
     if is_silent line then Some command.Nothing

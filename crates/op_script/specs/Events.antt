@@ -11,7 +11,7 @@ use Rattle.machine.specs.declared.event.RefusedEvent.{RefusedEvent}
 
 -- ---- STEP and RUN
 
--- the machine after so many steps, each followed by a tick where `ticking` says so
+-- the machine after so many steps, each followed by a tick if `ticking`
 unfoldable pub after_steps : ℕ → Bool → S → S
 after_steps most ticking s = after (rounds most ticking) s
 
@@ -57,7 +57,7 @@ taken_with s (Text text) rest =
 taken_with s (Refused r) rest = record { machine = s; text = []; refusal = Some r }
 taken_with s _ rest = record { machine = s; text = []; refusal = None }
 
--- what an event of 64 characters gives where it happens at most so many times, up to one that gives fewer
+-- what a Take event of 64 characters takes if it happens at most so many times, until it takes fewer
 unfoldable pub taken_by : ℕ → Event → S → Taking
 taken_by zero e s = record { machine = s; text = []; refusal = None }
 taken_by (suc times) e s = let m = happens s e in taken_with m.state m.answer (taken_by times e m.state)

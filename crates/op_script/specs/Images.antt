@@ -17,6 +17,6 @@ Named = List (List ℕ × Assembled)
 abbrev pub image_of : Named → List ℕ → Option Assembled
 image_of images name = lookup (bytes_eq name) images
 
--- the images with one more, which takes the place of another of its name
+-- the images with one more, which replaces another of its name
 abbrev pub with_image : Named → List ℕ → Assembled → Named
 with_image images name image = insert_entry bytes_eq images name image

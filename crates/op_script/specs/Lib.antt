@@ -3,7 +3,7 @@ pub mod Texts
 pub mod Commands
 pub mod Images
 pub mod Sources
-pub mod Desks
+pub mod ScriptStates
 pub mod Printing
 pub mod Events
 pub mod RunScripts

@@ -28,7 +28,7 @@ abbrev pub text_line : List ℕ → List ℕ
 text_line [] = codes "TEXT\n"
 text_line (c ∷ more) = codes "TEXT " ++ printed (c ∷ more) ++ codes "\n"
 
--- the line of an answer; steps are told together, by `ran_line`
+-- the line of an answer; steps have one line together, `ran_line`
 abbrev pub answer_line : Answer → List ℕ
 answer_line (Ran n) = []
 answer_line Idle = []
@@ -84,10 +84,10 @@ job_line n (Some j) =
 
 -- ---- words
 
--- `oooooo/ LLLLLL,,RRRRRR text`, or that there is no such place
-abbrev pub place_line : ℕ → Option ℕ → List ℕ
-place_line a None = codes "?ADDRESS\n"
-place_line a (Some w) = octal 6 a ++ codes "/ " ++ word_text w ++ codes " " ++ text_of_word w ++ codes "\n"
+-- `oooooo/ LLLLLL,,RRRRRR text`, or `?ADDRESS` if the job has no such word
+abbrev pub address_line : ℕ → Option ℕ → List ℕ
+address_line a None = codes "?ADDRESS\n"
+address_line a (Some w) = octal 6 a ++ codes "/ " ++ word_text w ++ codes " " ++ text_of_word w ++ codes "\n"
 
 -- a word alone
 abbrev pub word_line : ℕ → List ℕ

@@ -1,5 +1,6 @@
 -- The transcript of a script on the machine (this project's profile).
-use Rattle.std.specs.Prelude.{ℕ, ◌+◌, ◌-◌, Bool, true, false, List, [], ◌∷◌, ◌++◌, length, Option, Some, None, Result, Ok}
+use Rattle.std.specs.Prelude.{ℕ, ◌+◌, ◌-◌, Bool, true, false, List, [], ◌∷◌}
+use Rattle.std.specs.Prelude.{◌++◌, length, Option, Some, None, Result, Ok}
 use Rattle.std.specs.Prelude.{Err, if◌then◌else◌, codes, bytes_eq, slice_index, replicate, is_none}
 use Rattle.std.specs.List.{flat_map}
 use Rattle.std.specs.Str.Lines.{lines}
@@ -21,10 +22,11 @@ use Rattle.script_io.specs.declared.endings.Ending.{Ending}
 use Rattle.script_io.specs.declared.endings.Ending.TheVariants as ending
 use Rattle.script_io.specs.Transcripts.{Transcript, after, closed, unless_ended}
 use Rattle.op_script.specs.Commands.{command_of}
-use Rattle.op_script.specs.Desks.{DeskState}
+use Rattle.op_script.specs.ScriptStates.{StateValue}
 use Rattle.op_script.specs.Events.{after_steps, steps_run, Typing, typed_by, Taking, taken_by}
 use Rattle.op_script.specs.Images.{Named, image_of, with_image}
-use Rattle.op_script.specs.Printing.{answer_line, ran_line, done_line, taken_line, image_line, refused_line, job_line, place_line, word_line}
+use Rattle.op_script.specs.Printing.{answer_line, ran_line, done_line, taken_line, image_line}
+use Rattle.op_script.specs.Printing.{refused_line, job_line, address_line, word_line}
 use Rattle.op_script.specs.Sources.{SourceText, empty_source, with_line}
 use Rattle.op_script.specs.declared.commands.Command.{Command}
 use Rattle.op_script.specs.declared.commands.Command.TheVariants as command
@@ -33,49 +35,49 @@ use Rattle.op_script.specs.declared.events.TheConstants.{MOST_TAKES}
 -- what a line does: the machine, the images and the source afterwards, what it writes, and how the script ends, if it
 -- ends there
 pub record Effect : Type 0 where
-  pub desk : DeskState
+  pub state : StateValue
   pub text : List ℕ
   pub ending : Option Ending
 
 -- the script goes on
-abbrev pub goes : DeskState → List ℕ → Effect
-goes d text = record { desk = d; text = text; ending = None }
+abbrev pub goes : StateValue → List ℕ → Effect
+goes d text = record { state = d; text = text; ending = None }
 
 -- the script ends
-abbrev pub ends : DeskState → List ℕ → Ending → Effect
-ends d text e = record { desk = d; text = text; ending = Some e }
+abbrev pub ends : StateValue → List ℕ → Ending → Effect
+ends d text e = record { state = d; text = text; ending = Some e }
 
 -- line n is not in the grammar
-abbrev pub fault : ℕ → DeskState → Effect
+abbrev pub fault : ℕ → StateValue → Effect
 fault n d = ends d (script_fault n).text (ending.Script n)
 
 -- ---- events
 
-abbrev pub with_machine : DeskState → S → DeskState
+abbrev pub with_machine : StateValue → S → StateValue
 with_machine d s = record d { machine = s }
 
 -- one event, whose answer is written
-abbrev pub answered : DeskState → Made → Effect
+abbrev pub answered : StateValue → Made → Effect
 answered d m = goes (with_machine d m.state) (answer_line m.answer)
 
 -- LOGIN: an image that is not known is a fault of the script
-abbrev pub login_effect : ℕ → DeskState → ℕ → Option Assembled → Effect
+abbrev pub login_effect : ℕ → StateValue → ℕ → Option Assembled → Effect
 login_effect n d line None = fault n d
 login_effect n d line (Some image) = answered d (logged_in d.machine line image.words image.start)
 
 -- STEP and RUN: so many steps, and in how many of them a job ran
-abbrev pub steps_effect : DeskState → ℕ → Bool → Effect
+abbrev pub steps_effect : StateValue → ℕ → Bool → Effect
 steps_effect d most ticking =
     let ran = steps_run most ticking d.machine in
     goes (with_machine d (after_steps most ticking d.machine)) (ran_line ran (most - ran))
 
-abbrev pub typing_effect : DeskState → Typing → Effect
+abbrev pub typing_effect : StateValue → Typing → Effect
 typing_effect d t = goes (with_machine d t.machine) (done_line t.refusal)
 
-abbrev pub taking_effect : DeskState → Taking → Effect
+abbrev pub taking_effect : StateValue → Taking → Effect
 taking_effect d t = goes (with_machine d t.machine) (taken_line t.refusal t.text)
 
--- ---- looking
+-- ---- showing
 
 -- SHOW JOBS: a line for each job, by number
 abbrev pub jobs_text : S → List ℕ
@@ -84,12 +86,12 @@ jobs_text s = flat_map (λ n. job_line n (job_view s.world n)) jobs ++ codes "EN
 -- EXAMINE: a job has to be there
 abbrev pub examined_text : S → ℕ → ℕ → List ℕ
 examined_text s job a =
-    if is_none (job_view s.world job) then refused_line NoSuchJob else place_line a (word_in s.world job a)
+    if is_none (job_view s.world job) then refused_line NoSuchJob else address_line a (word_in s.world job a)
 
 -- ---- commands
 
--- what line n does, which asks for this; one that is not in the grammar ends the script
-abbrev pub effect_of : ℕ → DeskState → Option Command → Effect
+-- what line n, which has this command, does; a line that is not in the grammar ends the script
+abbrev pub effect_of : ℕ → StateValue → Option Command → Effect
 effect_of n d None = fault n d
 effect_of n d (Some command.Nothing) = goes d []
 effect_of n d (Some (command.Assemble name)) = goes (record d { source = Some (empty_source name n) }) []
@@ -126,15 +128,15 @@ abbrev pub assembled_ending : ℕ → Result Assembled Fault → Option Ending
 assembled_ending before (Ok image) = None
 assembled_ending before (Err wrong) = Some (ending.Source (fault_behind before wrong))
 
-abbrev pub assembled_effect : DeskState → SourceText → Result Assembled Fault → Effect
+abbrev pub assembled_effect : StateValue → SourceText → Result Assembled Fault → Effect
 assembled_effect d source outcome = record {
-  desk = record d { images = defined d.images source.name outcome; source = None };
+  state = record d { images = defined d.images source.name outcome; source = None };
   text = assembled_text source.name outcome;
   ending = assembled_ending source.before outcome;
 }
 
 -- ENDASM ends a source; every other line belongs to it
-abbrev pub source_effect : DeskState → SourceText → List ℕ → Effect
+abbrev pub source_effect : StateValue → SourceText → List ℕ → Effect
 source_effect d source line =
     if bytes_eq line (codes "ENDASM")
     then assembled_effect d source (outcome_of source.text)
@@ -142,31 +144,31 @@ source_effect d source line =
 
 -- ---- lines
 
-abbrev pub allowed_effect : ℕ → DeskState → Option SourceText → List ℕ → Effect
+abbrev pub allowed_effect : ℕ → StateValue → Option SourceText → List ℕ → Effect
 allowed_effect n d (Some source) line = source_effect d source line
 allowed_effect n d None line = effect_of n d (command_of line)
 
 -- what line n does: a command, or a line of a source
-abbrev pub line_effect : ℕ → DeskState → List ℕ → Effect
+abbrev pub line_effect : ℕ → StateValue → List ℕ → Effect
 line_effect n d line = if is_allowed line then allowed_effect n d d.source line else fault n d
 
 -- the line's text, and then what follows, unless the script ends
-abbrev pub continued : Effect → (DeskState → Transcript Ending) → Transcript Ending
-continued e rest = after e.text (unless_ended e.ending (rest e.desk))
+abbrev pub continued : Effect → (StateValue → Transcript Ending) → Transcript Ending
+continued e rest = after e.text (unless_ended e.ending (rest e.state))
 
--- no line comes behind line n: a source without ENDASM is a fault of the next
+-- the input ends behind line n: a source without ENDASM is a fault of the next line
 abbrev pub at_end : ℕ → Option SourceText → Transcript Ending
 at_end n None = closed [] ending.Done
 at_end n (Some source) = script_fault (n + 1)
 
--- what lines write, where n lines have come and left this
-abbrev pub transcript_of : DeskState → ℕ → List (List ℕ) → Transcript Ending
+-- the transcript of lines behind n lines that left this state
+abbrev pub transcript_of : StateValue → ℕ → List (List ℕ) → Transcript Ending
 transcript_of d n [] = at_end n d.source
 transcript_of d n (line ∷ more) =
     continued (line_effect (n + 1) d line) (λ next. transcript_of next (n + 1) more)
 
 -- a machine from a fresh boot, whose lock table is of the largest size, without images
-abbrev pub fresh : ℕ → ℕ → DeskState
+abbrev pub fresh : ℕ → ℕ → StateValue
 fresh blocks quantum = record { machine = at_boot MOST_REQUESTS blocks quantum; images = []; source = None }
 
 -- what a script writes on a machine of so many blocks and a quantum of so many ticks, and how it ends

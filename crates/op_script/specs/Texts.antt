@@ -1,6 +1,7 @@
 -- Texts that are typed and taken: escapes stand for characters that a line of a script cannot have (this project's
 -- profile).
-use Rattle.std.specs.Prelude.{ℕ, zero, suc, ◌+◌, ◌-◌, ◌*◌, ◌==◌, ◌&&◌, ◌||◌, Bool, nat_le, nat_lt, List, [], ◌∷◌}
+use Rattle.std.specs.Prelude.{ℕ, zero, suc, ◌+◌, ◌-◌, ◌*◌, ◌==◌, ◌&&◌}
+use Rattle.std.specs.Prelude.{◌||◌, Bool, nat_le, nat_lt, List, [], ◌∷◌}
 use Rattle.std.specs.Prelude.{Option, Some, None, if◌then◌else◌, option_map, option_and_then}
 use Rattle.std.specs.List.{flat_map}
 use Rattle.script_io.specs.Printing.{escaped}

@@ -1,9 +1,11 @@
 //! The commands of a script on the machine.
-ghost use Rattle.std.specs.Prelude.{◌≡◌, ◌^◌, ◌<◌, ◌≤◌, ◌&&◌, length, is_some, option_map, option_copied, position, IfSome};
+ghost use Rattle.std.specs.Prelude.{◌≡◌, ◌^◌, ◌<◌, ◌≤◌, ◌&&◌, length};
+ghost use Rattle.std.specs.Prelude.{is_some, option_map, option_copied, position, IfSome};
 ghost use Rattle.std.specs.List.{before_first, after_first};
 ghost use Rattle.script_io.specs.Lines.{is_allowed};
 ghost use Rattle.op_script.specs.Names.{name_of};
-ghost use Rattle.op_script.specs.Commands.{byte_of, count_of, address_of, data_place_of, only, alone, login_of, shown_by, examine_of, is_space};
+ghost use Rattle.op_script.specs.Commands.{byte_of, count_of, address_of, data_number_of, only};
+ghost use Rattle.op_script.specs.Commands.{alone, login_of, shown_by, examine_of, is_space};
 ghost use Rattle.op_script.specs.Commands.{text_of, typed_of, other_keyword_of, keyword_of, command_with, command_of_items, command_of};
 
 use crate::names::ImageName;
@@ -30,7 +32,7 @@ pub enum Keyword {
     Quit,
 }
 
-/// What a line asks for.
+/// The command of a line.
 #[derive(Drop)]
 pub enum Command {
     /// Nothing: the line is empty or a comment.
@@ -39,23 +41,23 @@ pub enum Command {
     Assemble(ImageName),
     /// LOGIN: a job begins at a line, with an image.
     Login(u8, ImageName),
-    /// STEP: so many steps.
+    /// STEP: this many steps.
     Step(u32),
-    /// RUN: so many steps, each followed by a tick.
+    /// RUN: this many steps, each followed by a tick.
     Run(u32),
-    /// TICK: so many ticks.
+    /// TICK: this many ticks.
     Tick(u32),
     /// TYPE: a text is typed at a line.
     Typed(u8, TypedText),
-    /// TAKE: what was put out at a line is taken.
+    /// TAKE: the output of a line is taken.
     Take(u8),
     /// START: a job starts.
     Start(u8),
-    /// CONTINUE: a job goes on.
+    /// CONTINUE: a stopped job goes on.
     Continue(u8),
-    /// KILL: a job is taken away.
+    /// KILL: a job is removed.
     Kill(u8),
-    /// RESTART: all jobs are taken away.
+    /// RESTART: all jobs are removed.
     Restart,
     /// SHOW JOBS.
     ShowJobs,
@@ -63,7 +65,7 @@ pub enum Command {
     ShowLocks,
     /// SHOW WAITS: who waits for whom.
     ShowWaits,
-    /// EXAMINE: the word at a place of a job.
+    /// EXAMINE: the word at an address of a job.
     Examine(u8, u32),
     /// DATA: a word that all jobs share.
     Data(u16),
@@ -101,9 +103,9 @@ fn read_address(text: &[u8]) -> Option<u32>
     Some(number(8, MOST_ADDRESS, text)? as u32)
 }
 
-/// The place of a word that all jobs share.
-fn read_data_place(text: &[u8]) -> Option<u16>
-    ensures { result ≡ data_place_of text.now }
+/// The number of a word that all jobs share.
+fn read_data_number(text: &[u8]) -> Option<u16>
+    ensures { result ≡ data_number_of text.now }
 {
     Some(number(10, DATA_WORDS as u64 - 1, text)? as u16)
 }
@@ -160,15 +162,15 @@ fn read_examine(mut items: Parts<'_>) -> Option<Command>
     ensures { result ≡ examine_of items.entry }
 {
     let job = items.next()?;
-    let place = items.next()?;
+    let address = items.next()?;
     if !items.is_empty() {
         return None;
     }
     let job = read_byte(job)?;
-    Some(Command::Examine(job, read_address(place)?))
+    Some(Command::Examine(job, read_address(address)?))
 }
 
-/// The place of the first space.
+/// The position of the first space.
 fn find_space(text: &[u8]) -> Option<usize>
     ensures { result ≡ position is_space text.now }
 {
@@ -270,7 +272,7 @@ fn read_command_with(keyword: Keyword, items: Parts<'_>) -> Option<Command>
         Keyword::Restart => alone(Command::Restart, items),
         Keyword::Show => read_shown(only(items)?),
         Keyword::Examine => read_examine(items),
-        Keyword::Data => Some(Command::Data(read_data_place(only(items)?)?)),
+        Keyword::Data => Some(Command::Data(read_data_number(only(items)?)?)),
         Keyword::Quit => alone(Command::Quit, items),
     }
 }
@@ -284,7 +286,7 @@ fn read_items(mut items: Parts<'_>) -> Option<Command>
     read_command_with(keyword, items)
 }
 
-/// What a line of at most 256 characters asks for, if it is in the grammar.
+/// The command of a line of at most 256 characters, if the line is in the grammar.
 #[tactic(auto, unfolding(crate::specs::Commands::command_of))]
 pub fn read_command(line: &[u8]) -> Option<Command>
     requires { length line.now ≤ LINE_LENGTH }

@@ -15,13 +15,13 @@ use std::alloc::AllocError;
 use tty_lines::Char7;
 use word36::{Image, OUTPUT_RING, TAKEN_AT_ONCE};
 
-/// How many Take events empty an output ring that is full: the last gives nothing.
+/// How many Take events empty an output ring that is full; the last finds nothing.
 pub const MOST_TAKES: usize = OUTPUT_RING / TAKEN_AT_ONCE + 1;
 
 /// Room for what they give.
 const TAKEN_ROOM: usize = MOST_TAKES * TAKEN_AT_ONCE;
 
-/// One event, whose answer is written.
+/// Makes one event happen, and adds its answer.
 pub fn happen<L: LockTable, C: CoreStore>(
     machine: &mut System<L, C>,
     event: &Event<'_>,
@@ -34,7 +34,7 @@ pub fn happen<L: LockTable, C: CoreStore>(
     push_answer(out, &answer)
 }
 
-/// Steps, each followed by a tick where `ticking` says so.
+/// Makes `most` steps, each followed by a tick if `ticking`, and adds in how many a job ran.
 pub fn step<L: LockTable, C: CoreStore>(
     machine: &mut System<L, C>,
     most: u32,
@@ -42,13 +42,14 @@ pub fn step<L: LockTable, C: CoreStore>(
     out: &mut Vec<u8>,
 ) -> Result<(), AllocError>
     ensures state { OnOk result (machine.new ≡ after_steps most ticking machine.old) }
-    ensures text { OnOk result (out.new.items ≡ out.old.items ++ ran_line (steps_run most ticking machine.old) (most - steps_run most ticking machine.old)) }
+    ensures text { OnOk result (out.new.items
+        ≡ out.old.items ++ ran_line (steps_run most ticking machine.old) (most - steps_run most ticking machine.old)) }
 {
     let ran = step_by(machine, most, ticking);
     push_ran(out, ran, most.saturating_sub(ran))
 }
 
-/// Makes steps, and counts those in which a job ran.
+/// Makes `most` steps, and returns in how many a job ran.
 #[tactic(auto, unfolding(crate::specs::Events::after_steps, crate::specs::Events::steps_run))]
 fn step_by<L: LockTable, C: CoreStore>(machine: &mut System<L, C>, most: u32, ticking: bool) -> u32
     ensures state { machine.new ≡ after_steps most ticking machine.old }
@@ -57,7 +58,7 @@ fn step_by<L: LockTable, C: CoreStore>(machine: &mut System<L, C>, most: u32, ti
     machine.steps(most, ticking)
 }
 
-/// An event, so many times.
+/// Makes an event happen `times` times.
 fn repeat<L: LockTable, C: CoreStore>(machine: &mut System<L, C>, event: &Event<'_>, times: u32)
     ensures { machine.new ≡ after (replicate times event.now) machine.old }
 {
@@ -66,7 +67,7 @@ fn repeat<L: LockTable, C: CoreStore>(machine: &mut System<L, C>, event: &Event<
     }
 }
 
-/// An event, so many times, whose answers are not written.
+/// Makes an event happen `times` times, and adds `DONE` instead of its answers.
 pub fn happen_often<L: LockTable, C: CoreStore>(
     machine: &mut System<L, C>,
     event: &Event<'_>,
@@ -90,7 +91,7 @@ fn refusal_in(answer: Answer) -> Option<RefusedEvent>
     }
 }
 
-/// Types a character at a line, and says why it is refused, if it is.
+/// Types a character at a line. Returns why it is refused, if it is.
 fn type_character<L: LockTable, C: CoreStore>(
     machine: &mut System<L, C>,
     line: u8,
@@ -104,7 +105,7 @@ fn type_character<L: LockTable, C: CoreStore>(
     refusal_in(machine.event(&Event::Typed(line, character)))
 }
 
-/// Types characters at a line, up to the first that is refused.
+/// Types characters at a line, up to the first that is refused. Returns why it is.
 fn type_characters<L: LockTable, C: CoreStore>(
     machine: &mut System<L, C>,
     line: u8,
@@ -144,7 +145,7 @@ fn extend(text: &mut ArrayVec<Char7, TAKEN_ROOM>, more: &[Char7])
     let _ = text.try_extend_from_slice(more);
 }
 
-/// Takes characters by an event, up to the first time that it gives fewer than it might.
+/// Takes characters by a Take event, again until it takes fewer than it can.
 fn take_characters<L: LockTable, C: CoreStore>(
     machine: &mut System<L, C>,
     event: &Event<'_>,
@@ -171,7 +172,7 @@ fn take_characters<L: LockTable, C: CoreStore>(
     None
 }
 
-/// Takes all characters that an event gives.
+/// Takes all output of a line by a Take event, and adds it.
 pub fn take_text<L: LockTable, C: CoreStore>(
     machine: &mut System<L, C>,
     event: &Event<'_>,

@@ -33,7 +33,7 @@ impl Images {
         }
     }
 
-    /// Adds an image, in place of another of its name.
+    /// Adds an image; it replaces another of its name.
     pub fn insert(&mut self, name: ImageName, image: Image) -> Result<(), AllocError>
         ensures { OnOk result (self.new ≡ with_image self.old name (assembled_in image)) }
     {

@@ -2,19 +2,19 @@
 #![tactic(auto)]
 
 mod commands;
-mod desk;
 mod events;
 mod images;
-mod looking;
 mod names;
 mod printing;
 mod run_scripts;
+mod script_state;
+mod showing;
 mod sources;
 mod texts;
 
 pub use commands::{MOST_ADDRESS, MOST_EVENTS, MOST_NUMBER, is_command};
-pub use desk::Machine;
 pub use events::MOST_TAKES;
 pub use monitor::Config;
 pub use names::NAME_LENGTH;
 pub use run_scripts::{RunService, serve};
+pub use script_state::Machine;

@@ -2,7 +2,7 @@
 ghost use Rattle.std.specs.Prelude.{◌≡◌, ◌++◌, ◌<◌, ◌^◌, OnOk};
 ghost use Rattle.word36.specs.Octal.{octal};
 ghost use Rattle.op_script.specs.Printing.{refused_line, number_line, text_line, answer_line, ran_line, done_line, taken_line, image_line};
-ghost use Rattle.op_script.specs.Printing.{limit_text, wait_text, standing_text, job_line, place_line, word_line};
+ghost use Rattle.op_script.specs.Printing.{limit_text, wait_text, standing_text, job_line, address_line, word_line};
 
 use crate::names::ImageName;
 use crate::texts::push_text;
@@ -182,15 +182,15 @@ pub fn push_job(out: &mut Vec<u8>, n: u8, job: &JobView) -> Result<(), AllocErro
     Ok(())
 }
 
-/// Adds a place and its word, or that there is no such place.
+/// Adds an address and its word, or `?ADDRESS`.
 #[tactic(auto, using(std::proofs::Common::append_assoc))]
-pub fn push_place(out: &mut Vec<u8>, place: u32, word: Option<Word>) -> Result<(), AllocError>
-    ensures { OnOk result (out.new.items ≡ out.old.items ++ place_line place word) }
+pub fn push_address(out: &mut Vec<u8>, address: u32, word: Option<Word>) -> Result<(), AllocError>
+    ensures { OnOk result (out.new.items ≡ out.old.items ++ address_line address word) }
 {
     match word {
         None => out.extend_from_slice(b"?ADDRESS\n")?,
         Some(word) => {
-            out.extend_from_slice(&octal_digits::<6>(u64::from(place)))?;
+            out.extend_from_slice(&octal_digits::<6>(u64::from(address)))?;
             out.extend_from_slice(b"/ ")?;
             push_word(out, word)?;
             out.push(b' ')?;

@@ -8,19 +8,19 @@ ghost use Rattle.op_script.specs.RunScripts.{effect_of, login_effect, defined, a
 ghost use Rattle.op_script.specs.RunScripts.{line_effect, fresh, transcript_of, transcript};
 
 use crate::commands::{Command, read_command};
-use crate::desk::{Desk, Machine};
 use crate::events::{happen, happen_often, step, take_text, type_text};
 use crate::images::Images;
-use crate::looking::{push_data_word, push_examined, push_jobs, push_locks, push_waiting};
 use crate::names::ImageName;
 use crate::printing::push_image;
+use crate::script_state::{Machine, ScriptState};
+use crate::showing::{push_data_word, push_examined, push_jobs, push_locks, push_waiting};
 use crate::sources::Source;
 use asm_script::{push_asm_fault, source_ending};
 use core_store::{BlockCore, CoreStore};
 use lock_queue::LockTable;
+use lock_table::ProgramTable;
 use mac_asm::{AsmError, assemble};
 use monitor::{Config, Event};
-use lock_table::ProgramTable;
 use script_io::{
     ByteIn, ByteOut, Ending, LineService, LineSession, ServeError, is_allowed, push_fault,
     serve_script,
@@ -37,48 +37,48 @@ fn end_at_fault(number: u128, out: &mut Vec<u8>) -> Result<Option<Ending>, Alloc
     Ok(Some(Ending::Script(number)))
 }
 
-/// A job begins at a line, with the image of a name, if there is one.
+/// Logs a job in at a line, with the image of a name; a script fault if there is no such image.
 fn login<L: LockTable, C: CoreStore>(
-    desk: &mut Desk<L, C>,
+    state: &mut ScriptState<L, C>,
     number: u128,
     line: u8,
     name: &ImageName,
     out: &mut Vec<u8>,
 ) -> Result<Option<Ending>, AllocError>
-    ensures desk { OnOk result (desk.new ≡ (login_effect number desk.old line (image_of desk.old.images name.now)).desk) }
-    ensures text { OnOk result (out.new.items ≡ out.old.items ++ (login_effect number desk.old line (image_of desk.old.images name.now)).text) }
-    ensures ending { IfOk result (λ ending. ending ≡ (login_effect number desk.old line (image_of desk.old.images name.now)).ending) }
+    ensures state { OnOk result (state.new ≡ (login_effect number state.old line (image_of state.old.images name.now)).state) }
+    ensures text { OnOk result (out.new.items
+        ≡ out.old.items ++ (login_effect number state.old line (image_of state.old.images name.now)).text) }
+    ensures ending { IfOk result (λ ending. ending ≡ (login_effect number state.old line (image_of state.old.images name.now)).ending) }
 {
-    let Some(image) = desk.images.get(name) else {
+    let Some(image) = state.images.get(name) else {
         return end_at_fault(number, out);
     };
-    happen(&mut desk.machine, &Event::Login(line, image), out)?;
+    happen(&mut state.machine, &Event::Login(line, image), out)?;
     Ok(None)
 }
 
-/// Does what a line asks for, and adds what it writes. It answers an ending where the script ends
-/// there.
+/// Carries out a line's command, and adds its output. Returns an ending if the script ends there.
 fn perform<L: LockTable, C: CoreStore>(
     alloc: Global,
-    desk: &mut Desk<L, C>,
+    state: &mut ScriptState<L, C>,
     number: u128,
     command: Option<Command>,
     out: &mut Vec<u8>,
 ) -> Result<Option<Ending>, AllocError>
-    ensures desk { OnOk result (desk.new ≡ (effect_of number desk.old command).desk) }
-    ensures text { OnOk result (out.new.items ≡ out.old.items ++ (effect_of number desk.old command).text) }
-    ensures ending { IfOk result (λ ending. ending ≡ (effect_of number desk.old command).ending) }
+    ensures state { OnOk result (state.new ≡ (effect_of number state.old command).state) }
+    ensures text { OnOk result (out.new.items ≡ out.old.items ++ (effect_of number state.old command).text) }
+    ensures ending { IfOk result (λ ending. ending ≡ (effect_of number state.old command).ending) }
 {
     let Some(command) = command else {
         return end_at_fault(number, out);
     };
-    let machine = &mut desk.machine;
+    let machine = &mut state.machine;
     let done = match command {
         Command::Quit => return Ok(Some(Ending::Done)),
-        Command::Login(line, name) => return login(desk, number, line, &name, out),
+        Command::Login(line, name) => return login(state, number, line, &name, out),
         Command::Nothing => Ok(()),
         Command::Assemble(name) => {
-            desk.source = Some(Source::new(alloc, name, number));
+            state.source = Some(Source::new(alloc, name, number));
             Ok(())
         }
         Command::Step(most) => step(machine, most, false, out),
@@ -93,14 +93,14 @@ fn perform<L: LockTable, C: CoreStore>(
         Command::ShowJobs => push_jobs(out, machine),
         Command::ShowLocks => push_locks(out, machine),
         Command::ShowWaits => push_waiting(out, machine),
-        Command::Examine(job, place) => push_examined(out, machine, job, place),
+        Command::Examine(job, address) => push_examined(out, machine, job, address),
         Command::Data(i) => push_data_word(out, machine, i),
     };
     done?;
     Ok(None)
 }
 
-/// A source that is whole gets its image, or is told what is wrong with it.
+/// Assembles a whole source: keeps its image, or adds its fault and ends the script.
 fn end_source(
     alloc: Global,
     images: &mut Images,
@@ -126,45 +126,45 @@ fn end_source(
     }
 }
 
-/// A line of a source comes.
+/// Takes a line of a source.
 fn take_source_line<L: LockTable, C: CoreStore>(
     alloc: Global,
-    desk: &mut Desk<L, C>,
+    state: &mut ScriptState<L, C>,
     mut source: Source,
     line: &[u8],
     out: &mut Vec<u8>,
 ) -> Result<Option<Ending>, AllocError>
-    requires { desk.old.source ≡ None }
-    ensures desk { OnOk result (desk.new ≡ (source_effect desk.old source line.now).desk) }
-    ensures text { OnOk result (out.new.items ≡ out.old.items ++ (source_effect desk.old source line.now).text) }
-    ensures ending { IfOk result (λ ending. ending ≡ (source_effect desk.old source line.now).ending) }
+    requires { state.old.source ≡ None }
+    ensures state { OnOk result (state.new ≡ (source_effect state.old source line.now).state) }
+    ensures text { OnOk result (out.new.items ≡ out.old.items ++ (source_effect state.old source line.now).text) }
+    ensures ending { IfOk result (λ ending. ending ≡ (source_effect state.old source line.now).ending) }
 {
     if line == b"ENDASM".as_slice() {
-        return end_source(alloc, &mut desk.images, source, out);
+        return end_source(alloc, &mut state.images, source, out);
     }
     source.push_line(line)?;
-    desk.source = Some(source);
+    state.source = Some(source);
     Ok(None)
 }
 
-/// Does what a line says, and adds what it writes. It answers an ending where the script ends there.
+/// Takes a line: a command, or a line of a source. Adds its output, and returns an ending if the script ends there.
 fn obey<L: LockTable, C: CoreStore>(
     alloc: Global,
-    desk: &mut Desk<L, C>,
+    state: &mut ScriptState<L, C>,
     number: u128,
     line: &[u8],
     out: &mut Vec<u8>,
 ) -> Result<Option<Ending>, AllocError>
-    ensures desk { OnOk result (desk.new ≡ (line_effect number desk.old line.now).desk) }
-    ensures text { OnOk result (out.new.items ≡ out.old.items ++ (line_effect number desk.old line.now).text) }
-    ensures ending { IfOk result (λ ending. ending ≡ (line_effect number desk.old line.now).ending) }
+    ensures state { OnOk result (state.new ≡ (line_effect number state.old line.now).state) }
+    ensures text { OnOk result (out.new.items ≡ out.old.items ++ (line_effect number state.old line.now).text) }
+    ensures ending { IfOk result (λ ending. ending ≡ (line_effect number state.old line.now).ending) }
 {
     if !is_allowed(line) {
         return end_at_fault(number, out);
     }
-    match desk.source.take() {
-        Some(source) => take_source_line(alloc, desk, source, line, out),
-        None => perform(alloc, desk, number, read_command(line), out),
+    match state.source.take() {
+        Some(source) => take_source_line(alloc, state, source, line, out),
+        None => perform(alloc, state, number, read_command(line), out),
     }
 }
 
@@ -172,35 +172,35 @@ fn obey<L: LockTable, C: CoreStore>(
 #[derive(Drop)]
 pub struct RunService {
     alloc: Global,
-    desk: Desk<ProgramTable, BlockCore>,
+    state: ScriptState<ProgramTable, BlockCore>,
 }
 
 impl RunService {
     /// The service over a machine from a fresh boot, with the blocks and the quantum of a `Config`.
     pub fn new(alloc: Global, config: Config) -> Result<Self, AllocError>
-        ensures { IfOk result (λ s. s.desk ≡ fresh config.blocks config.quantum) }
+        ensures { IfOk result (λ s. s.state ≡ fresh config.blocks config.quantum) }
     {
         let machine = Machine::boot(alloc, config)?;
-        let desk = Desk {
+        let state = ScriptState {
             machine,
             images: Images::new(alloc),
             source: None,
         };
-        Ok(RunService { alloc, desk })
+        Ok(RunService { alloc, state })
     }
 
-    /// The machine that the lines taken so far have left.
+    /// The machine behind the lines taken so far.
     pub fn machine(&self) -> &Machine
-        ensures { result.now ≡ self.now.desk.machine }
+        ensures { result.now ≡ self.now.state.machine }
     {
-        &self.desk.machine
+        &self.state.machine
     }
 }
 
 impl LineService for RunService {
     type Ending = Ending;
 
-    ghost follow_lines = { λ s n lines. transcript_of s.desk n lines };
+    ghost follow_lines = { λ s n lines. transcript_of s.state n lines };
 
     fn take_line(
         &mut self,
@@ -208,7 +208,7 @@ impl LineService for RunService {
         line: &[u8],
         out: &mut Vec<u8>,
     ) -> Result<Option<Ending>, AllocError> {
-        obey(self.alloc, &mut self.desk, number, line, out)
+        obey(self.alloc, &mut self.state, number, line, out)
     }
 
     fn refuse_line(&mut self, number: u128, out: &mut Vec<u8>) -> Result<Ending, AllocError> {
@@ -217,7 +217,7 @@ impl LineService for RunService {
     }
 
     fn end_lines(&mut self, number: u128, out: &mut Vec<u8>) -> Result<Ending, AllocError> {
-        if self.desk.source.is_none() {
+        if self.state.source.is_none() {
             return Ok(Ending::Done);
         }
         push_fault(out, number + 1)?;
@@ -226,7 +226,8 @@ impl LineService for RunService {
 }
 
 /// Serves a script on a machine from a fresh boot, with the blocks and the quantum of a `Config`:
-/// reads it, and writes its transcript. What a command writes goes out before the next read.
+/// reads it, and writes its transcript. The output of a command is
+/// written before the next read.
 pub fn serve<R: ByteIn, W: ByteOut>(
     alloc: Global,
     config: Config,

@@ -6,7 +6,7 @@ use crate::names::ImageName;
 use std::alloc::{AllocError, Global};
 use std::marker::Model;
 
-/// A source of which ASSEMBLE has come, and some lines.
+/// The source behind an ASSEMBLE, with its lines so far.
 #[derive(Drop)]
 pub struct Source {
     name: ImageName,
@@ -23,7 +23,7 @@ impl Model for Source {
 }
 
 impl Source {
-    /// A source without lines, behind so many lines of the script.
+    /// A source without lines; `before` lines of the script stand before it.
     pub fn new(alloc: Global, name: ImageName, before: u128) -> Self
         ensures { result ≡ empty_source name before }
     {

@@ -127,7 +127,7 @@ fn first_spelled(first: u8, more: &[u8]) -> Option<Spelled>
     })
 }
 
-/// Adds a character as a script spells it. Most stand for themselves, and are told by few comparisons.
+/// Adds a character as a script spells it. Most stand for themselves, which few comparisons show.
 fn push_character(out: &mut Vec<u8>, character: u8) -> Result<(), AllocError>
     requires { character < 128 }
     ensures { OnOk result (out.new.items ≡ out.old.items ++ printed_character character) }

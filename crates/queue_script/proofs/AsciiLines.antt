@@ -25,7 +25,7 @@ use Rattle.queue_script.specs.declared.locks.LockName.{LockName}
 use Rattle.queue_script.specs.declared.locks.LockName.TheVariants.{Coded}
 use Rattle.queue_script.specs.declared.locks.TheConstants.{MOST_CODE}
 use Rattle.queue_script.specs.Locks.{is_name_character, user_code, name_of, name_of_characters, lock_of, lock_of_parts, locks_of}
-use Rattle.queue_script.specs.Commands.{Asked, not_zero, job_of, asked_call, asked_status, call_for, unknown_call, enqueue_call, enqueue_of}
+use Rattle.queue_script.specs.Commands.{OwnedCommand, not_zero, job_of, call_by, status_by, call_for, unknown_call, enqueue_call, enqueue_of}
 use Rattle.queue_script.specs.Commands.{release_all_call, release_id_call, dequeue_call, dequeue_of, status_of_items, free_of, bare}
 use Rattle.queue_script.specs.Commands.{named_command, command_of_items, command_of}
 use Rattle.queue_script.proofs.LockLemmas.{and_parts}
@@ -197,14 +197,14 @@ enqueue_call-ascii f i j items c is =
     choice (f == 2) _ _ c is3 (λ b x. named-ascii _ items c x) (λ is4.
     choice (f == 3) _ _ c is4 (λ b x. named-ascii _ items c x) (λ x. named-ascii _ items c x))))
 
-asked : (j : ℕ) (o : Option (Result LockCall Refusal)) (a : Asked) {P : Type 0} → asked_call j o ≡ Some a → ((c : Result LockCall Refusal) → o ≡ Some c → P) → P
+asked : (j : ℕ) (o : Option (Result LockCall Refusal)) (a : OwnedCommand) {P : Type 0} → call_by j o ≡ Some a → ((c : Result LockCall Refusal) → o ≡ Some c → P) → P
 asked j None a is go = absurd (none-some a is)
 asked j (Some c) a is go = go c refl
 
 three : (a b c : List ℕ) (more : List (List ℕ)) → IsAscii a → IsAscii b → IsAscii c → AreAscii more → AreAscii (a ∷ b ∷ c ∷ more)
 three a b c more p q r others = cc
 
-enqueue-ascii : (items : List (List ℕ)) (a : Asked) → enqueue_of items ≡ Some a → AreAscii items
+enqueue-ascii : (items : List (List ℕ)) (a : OwnedCommand) → enqueue_of items ≡ Some a → AreAscii items
 enqueue-ascii [] a is = absurd (none-some a is)
 enqueue-ascii (job ∷ []) a is = absurd (none-some a is)
 enqueue-ascii (job ∷ function ∷ []) a is = absurd (none-some a is)
@@ -233,7 +233,7 @@ dequeue_call-ascii f j items c is =
 two : (a b : List ℕ) (more : List (List ℕ)) → IsAscii a → IsAscii b → AreAscii more → AreAscii (a ∷ b ∷ more)
 two a b more p q others = cc
 
-dequeue-ascii : (items : List (List ℕ)) (a : Asked) → dequeue_of items ≡ Some a → AreAscii items
+dequeue-ascii : (items : List (List ℕ)) (a : OwnedCommand) → dequeue_of items ≡ Some a → AreAscii items
 dequeue-ascii [] a is = absurd (none-some a is)
 dequeue-ascii (job ∷ []) a is = absurd (none-some a is)
 dequeue-ascii (job ∷ function ∷ rest) a is =
@@ -242,11 +242,11 @@ dequeue-ascii (job ∷ function ∷ rest) a is =
     asked j (dequeue_call f j rest) a call (λ c found.
     two job function rest (job_ascii job j first) (half-ascii function f second) (dequeue_call-ascii f j rest c found))))
 
-asked_keys : (j : ℕ) (o : Option (Result (ArrayVec Want) Refusal)) (a : Asked) {P : Type 0} → asked_status j o ≡ Some a → ((c : Result (ArrayVec Want) Refusal) → o ≡ Some c → P) → P
+asked_keys : (j : ℕ) (o : Option (Result (ArrayVec Want) Refusal)) (a : OwnedCommand) {P : Type 0} → status_by j o ≡ Some a → ((c : Result (ArrayVec Want) Refusal) → o ≡ Some c → P) → P
 asked_keys j None a is go = absurd (none-some a is)
 asked_keys j (Some c) a is go = go c refl
 
-status-ascii : (items : List (List ℕ)) (a : Asked) → status_of_items items ≡ Some a → AreAscii items
+status-ascii : (items : List (List ℕ)) (a : OwnedCommand) → status_of_items items ≡ Some a → AreAscii items
 status-ascii [] a is = absurd (none-some a is)
 status-ascii (job ∷ locks) a is =
     option_and_then_some _ (job_of job) a is (λ j first keys.
@@ -254,12 +254,12 @@ status-ascii (job ∷ locks) a is =
     mapped _ (locks_of locks) c found (λ ls spelled.
     both (list_all ascii job) (list_all (list_all ascii) locks) (job_ascii job j first) (locks-ascii locks ls spelled))))
 
-free-ascii : (items : List (List ℕ)) (a : Asked) → free_of items ≡ Some a → AreAscii items
+free-ascii : (items : List (List ℕ)) (a : OwnedCommand) → free_of items ≡ Some a → AreAscii items
 free-ascii [] a is = absurd (none-some a is)
 free-ascii (job ∷ []) a is = mapped _ (job_of job) a is (λ j found. both (list_all ascii job) true (job_ascii job j found) refl)
 free-ascii (job ∷ item ∷ more) a is = absurd (none-some a is)
 
-bare-ascii : (command : Asked) (items : List (List ℕ)) (a : Asked) → bare command items ≡ Some a → AreAscii items
+bare-ascii : (command : OwnedCommand) (items : List (List ℕ)) (a : OwnedCommand) → bare command items ≡ Some a → AreAscii items
 bare-ascii command [] a is = refl
 bare-ascii command (item ∷ more) a is = absurd (none-some a is)
 
@@ -268,7 +268,7 @@ bare-ascii command (item ∷ more) a is = absurd (none-some a is)
 word : (name letters : List ℕ) (rest : List (List ℕ)) → bytes_eq name letters ≡ true → IsAscii letters → AreAscii rest → AreAscii (name ∷ rest)
 word name letters rest is known others = let same = (bytes_eq-Decides name letters).0 is in cc
 
-items-ascii : (items : List (List ℕ)) (a : Asked) → command_of_items items ≡ Some a → AreAscii items
+items-ascii : (items : List (List ℕ)) (a : OwnedCommand) → command_of_items items ≡ Some a → AreAscii items
 items-ascii [] a is = absurd (none-some a is)
 items-ascii (name ∷ rest) a is =
     choice (bytes_eq name (codes "ENQ")) _ _ a is (λ b x. word name (codes "ENQ") rest b refl (enqueue-ascii rest a x)) (λ is2.
@@ -280,10 +280,10 @@ items-ascii (name ∷ rest) a is =
     choice (bytes_eq name (codes "QUIT")) _ _ a is7 (λ b x. word name (codes "QUIT") rest b refl (bare-ascii _ rest a x))
     (λ none. absurd (none-some a none))))))))
 
-line-ascii : (line : List ℕ) (a : Asked) → command_of_items (parts 32 line) ≡ Some a → IsAscii line
+line-ascii : (line : List ℕ) (a : OwnedCommand) → command_of_items (parts 32 line) ≡ Some a → IsAscii line
 line-ascii line a is = parts-ascii 32 line refl (items-ascii (parts 32 line) a is)
 
-other : (line : List ℕ) (read : Option Asked) → command_of_items (parts 32 line) ≡ read → list_all ascii line ≡ false → read ≡ None
+other : (line : List ℕ) (read : Option OwnedCommand) → command_of_items (parts 32 line) ≡ read → list_all ascii line ≡ false → read ≡ None
 other line None is beyond = refl
 other line (Some a) is beyond = let all = line-ascii line a is in cc
 

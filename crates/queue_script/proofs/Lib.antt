@@ -5,7 +5,7 @@ pub mod WantLemmas
 pub mod OptionLemmas
 pub mod CodeLemmas
 pub mod ShownLemmas
-pub mod Asking
+pub mod WellFormedLemmas
 pub mod PairLemmas
 pub mod LongLines
 pub mod AsciiLines

@@ -3,12 +3,12 @@ use Rattle.std.proofs.Common.{◌≡◌, ◌<◌, ◌+◌, ◌-◌, ◌++◌, �
 use Rattle.std.proofs.lemmas.Bool.Decides.{nat_tests}
 use Rattle.lock_queue.specs.declared.request.Request.{Request}
 use Rattle.script_io.specs.Transcripts.{after, closed}
-use Rattle.queue_script.specs.Commands.{Asked, command_of}
+use Rattle.queue_script.specs.Commands.{OwnedCommand, command_of}
 use Rattle.script_io.specs.Endings.{script_fault}
 use Rattle.queue_script.specs.QueueScripts.{continued, effect_of, transcript_of}
 use Rattle.script_io.specs.declared.endings.Ending.TheVariants.{Script}
 
-over_limit : (n most : ℕ) (a : Bool) (x : Option Asked) → most < n → cond (nat_le n most && a) x None ≡ None
+over_limit : (n most : ℕ) (a : Bool) (x : Option OwnedCommand) → most < n → cond (nat_le n most && a) x None ≡ None
 over_limit n most a x h = grind (arith, nat_tests)
 
 command_of-too_long : (line : List ℕ) → 256 < length line → command_of line ≡ None

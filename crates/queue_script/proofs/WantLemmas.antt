@@ -13,10 +13,10 @@ use Rattle.lock_queue.specs.declared.terms.BlockUse.{BlockUse}
 use Rattle.queue_script.specs.Borrowed.{filled}
 use Rattle.queue_script.specs.Options.{no_options}
 use Rattle.queue_script.specs.declared.locks.LockName.TheVariants.{Spelled}
-use Rattle.queue_script.specs.declared.locks.Taken.{Taken}
-use Rattle.queue_script.specs.declared.locks.Taken.TheVariants as taken
+use Rattle.queue_script.specs.declared.locks.StoreOutcome.{StoreOutcome}
+use Rattle.queue_script.specs.declared.locks.StoreOutcome.TheVariants as outcome
 use Rattle.lock_queue.specs.declared.terms.BlockUse.TheVariants.{Blocking, Full, Named}
-use Rattle.queue_script.specs.Locks.{lock_of, locks_of, want_of, plain_want, taken_as, TakesWant, Takes, TakesFirst}
+use Rattle.queue_script.specs.Locks.{lock_of, locks_of, want_of, plain_want, store_outcome, StoresWant, Stores, StoresFirst}
 use Rattle.queue_script.specs.Locks.{IsFirstLock, refused_with, onto_wants, wants_of, stored, call_wants}
 
 -- the wants so far, or the first refusal
@@ -61,37 +61,37 @@ want_of_plain job Named text = refl
 
 -- ---- what has come of an item
 
-pushed : (place : ℕ) (ws ws' : List Want) (w : Result Want Refusal) → TakesWant w place ws ws' taken.Wanted
-    → (want : Want) × (w ≡ Ok want) × (take (place + 1) ws' ≡ take place ws ++ want ∷ []) × (place + 1 ≤ length ws')
-pushed place ws ws' (Ok want) h = (want, refl, h.1, h.2)
-pushed place ws ws' (Err why) h = let e : taken.Wanted ≡ taken.Refused why = h.0 in absurd (cc)
+pushed : (position : ℕ) (ws ws' : List Want) (w : Result Want Refusal) → StoresWant w position ws ws' outcome.Stored
+    → (want : Want) × (w ≡ Ok want) × (take (position + 1) ws' ≡ take position ws ++ want ∷ []) × (position + 1 ≤ length ws')
+pushed position ws ws' (Ok want) h = (want, refl, h.1, h.2)
+pushed position ws ws' (Err why) h = let e : outcome.Stored ≡ outcome.Refused why = h.0 in absurd (cc)
 
-refused : (place : ℕ) (ws ws' : List Want) (w : Result Want Refusal) (why : Refusal) → TakesWant w place ws ws' (taken.Refused why) → w ≡ Err why
-refused place ws ws' (Ok want) why h = let e : taken.Refused why ≡ taken.Wanted = h.0 in absurd (cc)
-refused place ws ws' (Err other) why h = let e : taken.Refused why ≡ taken.Refused other = h.0 in cc
+refused : (position : ℕ) (ws ws' : List Want) (w : Result Want Refusal) (why : Refusal) → StoresWant w position ws ws' (outcome.Refused why) → w ≡ Err why
+refused position ws ws' (Ok want) why h = let e : outcome.Refused why ≡ outcome.Stored = h.0 in absurd (cc)
+refused position ws ws' (Err other) why h = let e : outcome.Refused why ≡ outcome.Refused other = h.0 in cc
 
-no_lock-not : (w : Result Want Refusal) → taken.NoLock ≡ taken_as w → ⊥
+no_lock-not : (w : Result Want Refusal) → outcome.NoLock ≡ store_outcome w → ⊥
 no_lock-not (Ok want) h = cc
 no_lock-not (Err why) h = cc
 
-pub record IsWanted (job : ℕ) (use_ : BlockUse) (items others : List (List ℕ)) (place : ℕ) (wants next : List Want) : Type 0 where
+pub record IsWanted (job : ℕ) (use_ : BlockUse) (items others : List (List ℕ)) (position : ℕ) (wants next : List Want) : Type 0 where
   pub lock : Lock
   pub first : IsFirstLock items (Some lock) others
   pub want : Want
   pub is : want_of job use_ lock ≡ Ok want
-  pub behind : take (place + 1) next ≡ take place wants ++ want ∷ []
-  pub long : place + 1 ≤ length next
+  pub behind : take (position + 1) next ≡ take position wants ++ want ∷ []
+  pub long : position + 1 ≤ length next
 
-pub wanted : (job : ℕ) (use_ : BlockUse) (items others : List (List ℕ)) (place : ℕ) (wants next : List Want)
-    → TakesFirst job use_ items others place wants next taken.Wanted
-    → IsWanted job use_ items others place wants next
-wanted job use_ items others place wants next t = by t.0 t.1 t.2
+pub wanted : (job : ℕ) (use_ : BlockUse) (items others : List (List ℕ)) (position : ℕ) (wants next : List Want)
+    → StoresFirst job use_ items others position wants next outcome.Stored
+    → IsWanted job use_ items others position wants next
+wanted job use_ items others position wants next t = by t.0 t.1 t.2
   where
-    by : (lock : Option Lock) → IsFirstLock items lock others → Takes job use_ lock place wants next taken.Wanted
-        → IsWanted job use_ items others place wants next
+    by : (lock : Option Lock) → IsFirstLock items lock others → Stores job use_ lock position wants next outcome.Stored
+        → IsWanted job use_ items others position wants next
     by None first h = absurd (cc)
     by (Some lock) first h =
-        let p = pushed place wants next (want_of job use_ lock) h in
+        let p = pushed position wants next (want_of job use_ lock) h in
         record { lock = lock; first = first; want = p.0; is = p.1; behind = p.2; long = p.3 }
 
 pub record IsRefused (job : ℕ) (use_ : BlockUse) (items others : List (List ℕ)) (why : Refusal) : Type 0 where
@@ -99,33 +99,33 @@ pub record IsRefused (job : ℕ) (use_ : BlockUse) (items others : List (List �
   pub first : IsFirstLock items (Some lock) others
   pub is : want_of job use_ lock ≡ Err why
 
-pub wanted-not : (job : ℕ) (use_ : BlockUse) (items others : List (List ℕ)) (place : ℕ) (wants next : List Want) (why : Refusal)
-    → TakesFirst job use_ items others place wants next (taken.Refused why)
+pub wanted-not : (job : ℕ) (use_ : BlockUse) (items others : List (List ℕ)) (position : ℕ) (wants next : List Want) (why : Refusal)
+    → StoresFirst job use_ items others position wants next (outcome.Refused why)
     → IsRefused job use_ items others why
-wanted-not job use_ items others place wants next why t = by t.0 t.1 t.2
+wanted-not job use_ items others position wants next why t = by t.0 t.1 t.2
   where
-    by : (lock : Option Lock) → IsFirstLock items lock others → Takes job use_ lock place wants next (taken.Refused why)
+    by : (lock : Option Lock) → IsFirstLock items lock others → Stores job use_ lock position wants next (outcome.Refused why)
         → IsRefused job use_ items others why
     by None first h = absurd (cc)
-    by (Some lock) first h = record { lock = lock; first = first; is = refused place wants next (want_of job use_ lock) why h }
+    by (Some lock) first h = record { lock = lock; first = first; is = refused position wants next (want_of job use_ lock) why h }
 
-pub no_lock : (job : ℕ) (use_ : BlockUse) (items others : List (List ℕ)) (place : ℕ) (wants next : List Want)
-    → TakesFirst job use_ items others place wants next taken.NoLock
+pub no_lock : (job : ℕ) (use_ : BlockUse) (items others : List (List ℕ)) (position : ℕ) (wants next : List Want)
+    → StoresFirst job use_ items others position wants next outcome.NoLock
     → IsFirstLock items None others
-no_lock job use_ items others place wants next t = by t.0 t.1 t.2
+no_lock job use_ items others position wants next t = by t.0 t.1 t.2
   where
-    by : (lock : Option Lock) → IsFirstLock items lock others → Takes job use_ lock place wants next taken.NoLock → IsFirstLock items None others
+    by : (lock : Option Lock) → IsFirstLock items lock others → Stores job use_ lock position wants next outcome.NoLock → IsFirstLock items None others
     by None first h = first
     by (Some lock) first h = absurd (no_lock-not (want_of job use_ lock) h.0)
 
-pub takes-plain : (job : ℕ) (use_ : BlockUse) (items others : List (List ℕ)) (place : ℕ) (wants next : List Want) (result : Taken) (text : List ℕ)
+pub takes-plain : (job : ℕ) (use_ : BlockUse) (items others : List (List ℕ)) (position : ℕ) (wants next : List Want) (result : StoreOutcome) (text : List ℕ)
     → IsFirstLock items (Some (record { name = Spelled text; options = no_options })) others
-    → TakesWant (plain_want text) place wants next result
-    → TakesFirst job use_ items others place wants next result
-takes-plain job use_ items others place wants next result text first takes = (
+    → StoresWant (plain_want text) position wants next result
+    → StoresFirst job use_ items others position wants next result
+takes-plain job use_ items others position wants next result text first takes = (
   Some (record { name = Spelled text; options = no_options }),
   first,
-  subst (λ w. TakesWant w place wants next result) (sym (want_of_plain job use_ text)) takes,
+  subst (λ w. StoresWant w position wants next result) (sym (want_of_plain job use_ text)) takes,
 )
 
 -- reading one more item
@@ -187,7 +187,7 @@ all-seen job use_ all rest count wants g end =
 
 pub gathers-end : (job : ℕ) (use_ : BlockUse) (all rest : List (List ℕ)) (count : ℕ) (wants : List Want) (after : ArrayVec Want)
     → Gathers job use_ all rest count wants None → rest ≡ [] → 1 ≤ count → count ≤ 16 → after.items ≡ wants
-    → filled taken.Wanted after ≡ option_map (call_wants job use_) (locks_of all)
+    → filled outcome.Stored after ≡ option_map (call_wants job use_) (locks_of all)
 gathers-end job use_ all rest count wants after g end some few is =
     let c = g.counted in
     ap (λ ws. Some (Ok (record { items = ws }))) is
@@ -199,7 +199,7 @@ gathers-end job use_ all rest count wants after g end some few is =
 
 pub gathers-nothing : (job : ℕ) (use_ : BlockUse) (all rest : List (List ℕ)) (count : ℕ) (wants : List Want) (after : ArrayVec Want)
     → Gathers job use_ all rest count wants None → rest ≡ [] → count ≡ 0
-    → filled (taken.Refused BadCount) after ≡ option_map (call_wants job use_) (locks_of all)
+    → filled (outcome.Refused BadCount) after ≡ option_map (call_wants job use_) (locks_of all)
 gathers-nothing job use_ all rest count wants after g end none =
     let c = g.counted in
     sym
@@ -226,14 +226,14 @@ few_refused : (n m : ℕ) (x y z : Result (ArrayVec Want) Refusal) → 1 ≤ n �
 few_refused n m x y z one same e = grind (arith, nat_tests)
 
 filled_refused : (b : Bool) (why : Refusal) (wants : ArrayVec Want)
-    → filled (cond b (taken.Refused why) (taken.Refused BadCount)) wants ≡ Some (cond b (Err why) (Err BadCount))
+    → filled (cond b (outcome.Refused why) (outcome.Refused BadCount)) wants ≡ Some (cond b (Err why) (Err BadCount))
 filled_refused true why wants = refl
 filled_refused false why wants = refl
 
 pub gathers-refused : (job : ℕ) (use_ : BlockUse) (all old rest : List (List ℕ)) (item : List ℕ) (lock : Lock) (count : ℕ)
-    (wants : List Want) (after : ArrayVec Want) (why : Refusal) (r : Taken)
+    (wants : List Want) (after : ArrayVec Want) (why : Refusal) (r : StoreOutcome)
     → Gathers job use_ all old count wants None → count ≤ 16 → old ≡ item ∷ rest → lock_of item ≡ Some lock → want_of job use_ lock ≡ Err why
-    → r ≡ option_map_or (refused_with (count + 1) why) (locks_of rest) taken.NoLock → filled r after ≡ option_map (call_wants job use_) (locks_of all)
+    → r ≡ option_map_or (refused_with (count + 1) why) (locks_of rest) outcome.NoLock → filled r after ≡ option_map (call_wants job use_) (locks_of all)
 gathers-refused job use_ all old rest item lock count wants after why r g few split is wrong result =
     ap (λ x. filled x after) result ∙ finish (locks_of rest)
     ∙ sym (ap (option_map (call_wants job use_)) (read-push all old rest item g.seen lock g.read split is))
@@ -247,7 +247,7 @@ gathers-refused job use_ all old rest item lock count wants after why r g few sp
         wants_of-push job use_ g.seen lock ∙ ap (λ w. join w (want_of job use_ lock)) (g.told (omega (arith, few))) ∙ ap (join (Ok wants)) wrong
 
     finish : (o : Option (List Lock))
-        → filled (option_map_or (refused_with (count + 1) why) o taken.NoLock) after
+        → filled (option_map_or (refused_with (count + 1) why) o outcome.NoLock) after
         ≡ option_map (call_wants job use_) (option_map (λ ls. seen ++ ls) o)
     finish None = refl
     finish (Some ls) =
@@ -261,18 +261,18 @@ gathers-refused job use_ all old rest item lock count wants after why r g few sp
         (ap stored (wants_of-refused job use_ seen ls why refused-so))))
 
 pub gathers-full : (job : ℕ) (use_ : BlockUse) (all rest : List (List ℕ)) (count : ℕ) (wants : List Want) (after : ArrayVec Want)
-    (r : Taken)
+    (r : StoreOutcome)
     → Gathers job use_ all rest count wants None → 16 ≤ count → (rest ≡ [] → ⊥)
-    → r ≡ option_map_or (refused_with 16 BadCount) (locks_of rest) taken.NoLock → filled r after ≡ option_map (call_wants job use_) (locks_of all)
+    → r ≡ option_map_or (refused_with 16 BadCount) (locks_of rest) outcome.NoLock → filled r after ≡ option_map (call_wants job use_) (locks_of all)
 gathers-full job use_ all rest count wants after r g many some result =
     ap (λ x. filled x after) result ∙ finish rest some ∙ sym (ap (option_map (call_wants job use_)) g.read)
   where
-    same : (b : Bool) → filled (cond b (taken.Refused BadCount) (taken.Refused BadCount)) after ≡ Some (Err BadCount)
+    same : (b : Bool) → filled (cond b (outcome.Refused BadCount) (outcome.Refused BadCount)) after ≡ Some (Err BadCount)
     same true = refl
     same false = refl
 
     first : (lock : Option Lock) (more : Option (List Lock))
-        → filled (option_map_or (refused_with 16 BadCount) (option_and_then (λ l. option_map (λ ls. l ∷ ls) more) lock) taken.NoLock) after
+        → filled (option_map_or (refused_with 16 BadCount) (option_and_then (λ l. option_map (λ ls. l ∷ ls) more) lock) outcome.NoLock) after
         ≡ option_map (call_wants job use_) (option_map (λ ls. g.seen ++ ls) (option_and_then (λ l. option_map (λ ls. l ∷ ls) more) lock))
     first None more = refl
     first (Some l) None = refl
@@ -282,7 +282,7 @@ gathers-full job use_ all rest count wants after r g many some result =
         same (nat_le (16 + length (l ∷ ls)) 16) ∙ ap Some (sym (few_or_many (length (g.seen ++ l ∷ ls)) _ _ (λ one most. omega (arith, many))))
 
     finish : (items : List (List ℕ)) → (items ≡ [] → ⊥)
-        → filled (option_map_or (refused_with 16 BadCount) (locks_of items) taken.NoLock) after
+        → filled (option_map_or (refused_with 16 BadCount) (locks_of items) outcome.NoLock) after
         ≡ option_map (call_wants job use_) (option_map (λ ls. g.seen ++ ls) (locks_of items))
     finish [] some = absurd (some refl)
     finish (item ∷ more) some = first (lock_of item) (locks_of more)

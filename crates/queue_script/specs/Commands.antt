@@ -1,5 +1,6 @@
 -- The commands of a script on the lock queue (this project's profile).
-use Rattle.std.specs.Prelude.{◌==◌, ◌&&◌, ◌||◌, ℕ, Bool, true, List, [], ◌∷◌, length, Option, Some, None, Result, Ok, Err}
+use Rattle.std.specs.Prelude.{◌==◌, ◌&&◌, ◌||◌, ℕ, Bool, true, List, [], ◌∷◌}
+use Rattle.std.specs.Prelude.{length, Option, Some, None, Result, Ok, Err}
 use Rattle.std.specs.Prelude.{if◌then◌else◌, codes, bytes_eq, nat_le, nat_lt, option_and_then, option_map, slice_index}
 use Rattle.std.specs.List.{list_all}
 use Rattle.arrayvec.specs.ArrayVec.{ArrayVec}
@@ -30,26 +31,26 @@ not_zero (Some n) = if n == 0 then None else Some n
 abbrev pub job_of : List ℕ → Option ℕ
 job_of text = not_zero (number 10 JOBS text)
 
--- ---- what a line asks for
+-- ---- commands
 
-pub data Asked : Type 0 where
-  nothing : Asked
-  call : ℕ → Result LockCall Refusal → Asked
-  status : ℕ → Result (ArrayVec Want) Refusal → Asked
-  free : ℕ → Asked
-  show : Asked
-  waits : Asked
-  quit : Asked
+pub data OwnedCommand : Type 0 where
+  nothing : OwnedCommand
+  call : ℕ → Result LockCall Refusal → OwnedCommand
+  status : ℕ → Result (ArrayVec Want) Refusal → OwnedCommand
+  free : ℕ → OwnedCommand
+  show : OwnedCommand
+  waits : OwnedCommand
+  quit : OwnedCommand
 
 -- a job's call on the queue, or why it is refused before it is made
-abbrev pub asked_call : ℕ → Option (Result LockCall Refusal) → Option Asked
-asked_call job None = None
-asked_call job (Some c) = Some (call job c)
+abbrev pub call_by : ℕ → Option (Result LockCall Refusal) → Option OwnedCommand
+call_by job None = None
+call_by job (Some c) = Some (call job c)
 
--- what a job is told of the keys of some wants, or why it is not
-abbrev pub asked_status : ℕ → Option (Result (ArrayVec Want) Refusal) → Option Asked
-asked_status job None = None
-asked_status job (Some wants) = Some (status job wants)
+-- STAT: the statuses of the keys of some wants for a job, or why there are none
+abbrev pub status_by : ℕ → Option (Result (ArrayVec Want) Refusal) → Option OwnedCommand
+status_by job None = None
+status_by job (Some wants) = Some (status job wants)
 
 -- ---- ENQ and DEQ
 
@@ -75,7 +76,7 @@ change_call job items = call_for Modify job Named items
 abbrev pub release_call : ℕ → List (List ℕ) → Option (Result LockCall Refusal)
 release_call job items = call_for DequeueNamed job Named items
 
--- a function that there is not, whatever its locks
+-- an unknown function, whatever its locks
 abbrev pub unknown_call : List (List ℕ) → Option (Result LockCall Refusal)
 unknown_call items = option_map (λ locks. Err NoFunction) (locks_of items)
 
@@ -89,9 +90,11 @@ enqueue_call function id job items =
     else unknown_call items)))
 
 -- `j f id lock..`
-abbrev pub enqueue_of : List (List ℕ) → Option Asked
+abbrev pub enqueue_of : List (List ℕ) → Option OwnedCommand
 enqueue_of (job ∷ function ∷ id ∷ locks) =
-    option_and_then (λ j. option_and_then (λ f. option_and_then (λ i. asked_call j (enqueue_call f i j locks)) (half_of id)) (half_of function)) (job_of job)
+    option_and_then
+    (λ j. option_and_then (λ f. option_and_then (λ i. call_by j (enqueue_call f i j locks)) (half_of id)) (half_of function))
+    (job_of job)
 enqueue_of _ = None
 
 -- nothing: function 1
@@ -114,33 +117,33 @@ dequeue_call function job rest =
     else unknown_call rest))
 
 -- `j f ..`
-abbrev pub dequeue_of : List (List ℕ) → Option Asked
+abbrev pub dequeue_of : List (List ℕ) → Option OwnedCommand
 dequeue_of (job ∷ function ∷ rest) =
-    option_and_then (λ j. option_and_then (λ f. asked_call j (dequeue_call f j rest)) (half_of function)) (job_of job)
+    option_and_then (λ j. option_and_then (λ f. call_by j (dequeue_call f j rest)) (half_of function)) (job_of job)
 dequeue_of _ = None
 
 -- ---- the other commands
 
 -- STAT: `j lock..`
-abbrev pub status_of_items : List (List ℕ) → Option Asked
+abbrev pub status_of_items : List (List ℕ) → Option OwnedCommand
 status_of_items [] = None
 status_of_items (job ∷ locks) =
-    option_and_then (λ j. asked_status j (option_map (call_wants j Named) (locks_of locks))) (job_of job)
+    option_and_then (λ j. status_by j (option_map (call_wants j Named) (locks_of locks))) (job_of job)
 
 -- FREE: `j`
-abbrev pub free_of : List (List ℕ) → Option Asked
+abbrev pub free_of : List (List ℕ) → Option OwnedCommand
 free_of (job ∷ []) = option_map free (job_of job)
 free_of _ = None
 
 -- a command that stands alone
-abbrev pub bare : Asked → List (List ℕ) → Option Asked
+abbrev pub bare : OwnedCommand → List (List ℕ) → Option OwnedCommand
 bare command [] = Some command
 bare command (item ∷ more) = None
 
 -- ---- lines
 
 -- the command of a line's items: its name and what follows
-abbrev pub named_command : List ℕ → List (List ℕ) → Option Asked
+abbrev pub named_command : List ℕ → List (List ℕ) → Option OwnedCommand
 named_command name rest =
     if bytes_eq name (codes "ENQ") then enqueue_of rest
     else (if bytes_eq name (codes "DEQ") then dequeue_of rest
@@ -151,11 +154,11 @@ named_command name rest =
     else (if bytes_eq name (codes "QUIT") then bare quit rest
     else None))))))
 
-abbrev pub command_of_items : List (List ℕ) → Option Asked
+abbrev pub command_of_items : List (List ℕ) → Option OwnedCommand
 command_of_items [] = None
 command_of_items (name ∷ rest) = named_command name rest
 
--- what a line asks for, where it is in the grammar: items parted by single spaces
-unfoldable pub command_of : List ℕ → Option Asked
+-- the command of a line that is in the grammar: items between single spaces
+unfoldable pub command_of : List ℕ → Option OwnedCommand
 command_of line =
     if is_allowed line then (if is_silent line then Some nothing else command_of_items (parts 32 line)) else None

@@ -1,7 +1,7 @@
 pub mod Options
 pub mod Locks
 pub mod Commands
-pub mod Asks
+pub mod WellFormed
 pub mod Borrowed
 pub mod Printing
 pub mod WaitPairs

@@ -1,5 +1,6 @@
 -- The locks of a command, and what a call wants of them (this project's profile).
-use Rattle.std.specs.Prelude.{◌≡◌, ◌≤◌, take, ◌==◌, ◌&&◌, ◌||◌, ◌++◌, ◌+◌, ℕ, Bool, false, List, [], ◌∷◌, length, Option, Some, None, Result}
+use Rattle.std.specs.Prelude.{◌≡◌, ◌≤◌, take, ◌==◌, ◌&&◌, ◌||◌, ◌++◌, ◌+◌}
+use Rattle.std.specs.Prelude.{ℕ, Bool, false, List, [], ◌∷◌, length, Option, Some, None, Result}
 use Rattle.std.specs.Prelude.{Ok, Err, if◌then◌else◌, option_and_then, option_map, unwrap_or, nat_le}
 use Rattle.std.specs.List.{list_all}
 use Rattle.arrayvec.specs.ArrayVec.{ArrayVec}
@@ -19,8 +20,8 @@ use Rattle.queue_script.specs.Options.{no_options, options_from}
 use Rattle.queue_script.specs.declared.locks.Lock.{Lock}
 use Rattle.queue_script.specs.declared.locks.LockName.{LockName}
 use Rattle.queue_script.specs.declared.locks.LockName.TheVariants.{Spelled, Coded}
-use Rattle.queue_script.specs.declared.locks.Taken.{Taken}
-use Rattle.queue_script.specs.declared.locks.Taken.TheVariants as taken
+use Rattle.queue_script.specs.declared.locks.StoreOutcome.{StoreOutcome}
+use Rattle.queue_script.specs.declared.locks.StoreOutcome.TheVariants as outcome
 use Rattle.queue_script.specs.declared.locks.TheConstants.{CODE_DIGITS, MOST_CODE}
 use Rattle.queue_script.specs.declared.options.Options.{Options}
 use Rattle.queue_script.specs.declared.options.PoolOption.{PoolOption}
@@ -113,30 +114,33 @@ abbrev pub with_want : List Want → Result Want Refusal → List Want
 with_want wants (Ok want) = wants ++ want ∷ []
 with_want wants (Err refusal) = wants
 
--- what has come of a lock of which this is wanted
-abbrev pub taken_as : Result Want Refusal → Taken
-taken_as (Ok want) = taken.Wanted
-taken_as (Err refusal) = taken.Refused refusal
+-- what is done with a lock of which this is wanted
+abbrev pub store_outcome : Result Want Refusal → StoreOutcome
+store_outcome (Ok want) = outcome.Stored
+store_outcome (Err refusal) = outcome.Refused refusal
 
--- the place behind a want at some place, where there is one
-abbrev pub place_behind : ℕ → Result Want Refusal → ℕ
-place_behind place (Ok want) = place + 1
-place_behind place (Err refusal) = place
+-- the position behind a want at some position, if it is not refused
+abbrev pub position_behind : ℕ → Result Want Refusal → ℕ
+position_behind position (Ok want) = position + 1
+position_behind position (Err refusal) = position
 
--- a want is taken to a place behind the wants before it, or refused
-abbrev pub TakesWant : Result Want Refusal → ℕ → List Want → List Want → Taken → Type 0
-TakesWant want place wants next result =
-    (result ≡ taken_as want) × (take (place_behind place want) next ≡ with_want (take place wants) want) × (place_behind place want ≤ length next)
+-- a want is stored at a position behind the wants before it, or refused
+abbrev pub StoresWant : Result Want Refusal → ℕ → List Want → List Want → StoreOutcome → Type 0
+StoresWant want position wants next result =
+    (result ≡ store_outcome want)
+    × (take (position_behind position want) next ≡ with_want (take position wants) want)
+    × (position_behind position want ≤ length next)
 
--- what a call wants of this lock is taken so; or there is no lock
-abbrev pub Takes : ℕ → BlockUse → Option Lock → ℕ → List Want → List Want → Taken → Type 0
-Takes job use_ None place wants next result = result ≡ taken.NoLock
-Takes job use_ (Some lock) place wants next result = TakesWant (want_of job use_ lock) place wants next result
+-- what a call wants of this lock is stored so; or there is no lock
+abbrev pub Stores : ℕ → BlockUse → Option Lock → ℕ → List Want → List Want → StoreOutcome → Type 0
+Stores job use_ None position wants next result = result ≡ outcome.NoLock
+Stores job use_ (Some lock) position wants next result = StoresWant (want_of job use_ lock) position wants next result
 
--- so is the lock that the first of some items spells, where these are behind it
-abbrev pub TakesFirst : ℕ → BlockUse → List (List ℕ) → List (List ℕ) → ℕ → List Want → List Want → Taken → Type 0
-TakesFirst job use_ items others place wants next result =
-    (lock : Option Lock) × IsFirstLock items lock others × Takes job use_ lock place wants next result
+-- the same of the lock that the first of some items spells; these items are behind it
+abbrev pub StoresFirst : ℕ → BlockUse → List (List ℕ) → List (List ℕ)
+    → ℕ → List Want → List Want → StoreOutcome → Type 0
+StoresFirst job use_ items others position wants next result =
+    (lock : Option Lock) × IsFirstLock items lock others × Stores job use_ lock position wants next result
 
 -- a want in front of others, or the first refusal
 abbrev pub onto_wants : Result Want Refusal → Result (List Want) Refusal → Result (List Want) Refusal
@@ -153,11 +157,11 @@ abbrev pub stored : Result (List Want) Refusal → Result (ArrayVec Want) Refusa
 stored (Ok wants) = Ok (record { items = wants })
 stored (Err refusal) = Err refusal
 
--- the wants of a call: their number is looked at first
+-- the wants of a call; a wrong number of locks comes before any other refusal
 abbrev pub call_wants : ℕ → BlockUse → List Lock → Result (ArrayVec Want) Refusal
 call_wants job use_ locks =
     if nat_le 1 (length locks) && nat_le (length locks) LOCKS_A_CALL then stored (wants_of job use_ locks) else Err BadCount
 
--- why a call is refused that names so many locks and these, where one of them is wrong: their number is looked at first
-abbrev pub refused_with : ℕ → Refusal → List Lock → Taken
-refused_with count why locks = if nat_le (count + length locks) LOCKS_A_CALL then taken.Refused why else taken.Refused BadCount
+-- why a call is refused that names so many locks and these, one of which is wrong: too many locks come first
+abbrev pub refused_with : ℕ → Refusal → List Lock → StoreOutcome
+refused_with count why locks = if nat_le (count + length locks) LOCKS_A_CALL then outcome.Refused why else outcome.Refused BadCount

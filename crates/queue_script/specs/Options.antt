@@ -1,5 +1,6 @@
 -- The options of a lock: `/S`, `/Gn`, `/B`, `/Ln`, `/Ps:a` and `/J` (this project's profile).
-use Rattle.std.specs.Prelude.{◌≡◌, ◌==◌, ◌&&◌, not, ℕ, Bool, true, false, List, [], ◌∷◌, Option, Some, None, if◌then◌else◌, option_and_then, option_map}
+use Rattle.std.specs.Prelude.{◌≡◌, ◌==◌, ◌&&◌, not, ℕ, Bool, true, false, List, [], ◌∷◌}
+use Rattle.std.specs.Prelude.{Option, Some, None, if◌then◌else◌, option_and_then, option_map}
 use Rattle.script_io.specs.Numbers.{number, parts}
 use Rattle.queue_script.specs.declared.options.LockOption.{LockOption}
 use Rattle.queue_script.specs.declared.options.LockOption.TheVariants.{Shared, Group, Bypass, Level, Pool, Own}

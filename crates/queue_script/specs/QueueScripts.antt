@@ -12,7 +12,7 @@ use Rattle.lock_queue.specs.declared.call.LockCall.{LockCall}
 use Rattle.lock_queue.specs.declared.refusal.Refusal.{Refusal}
 use Rattle.lock_queue.specs.declared.request.Request.{Request}
 use Rattle.lock_queue.specs.declared.want.Want.{Want}
-use Rattle.queue_script.specs.Commands.{Asked, nothing, call, status, free, show, waits, quit, command_of}
+use Rattle.queue_script.specs.Commands.{OwnedCommand, nothing, call, status, free, show, waits, quit, command_of}
 use Rattle.queue_script.specs.Printing.{code_line, grant_line, reply_line, status_line, request_line}
 use Rattle.script_io.specs.Transcripts.{Transcript, after, closed, unless_ended}
 use Rattle.word36.specs.declared.sizes.TheConstants.{MOST_REQUESTS}
@@ -33,8 +33,7 @@ goes requests text = record { requests = requests; text = text; ending = None }
 
 -- ---- calls
 
--- a job's call on the queue, which holds so many requests, where it was not refused before: its answer, and the grants that
--- it makes
+-- a job's call on a queue of some size, unless it was refused before: its answer, and the grants that it causes
 abbrev pub call_effect : ℕ → List Request → ℕ → Result LockCall Refusal → Effect
 call_effect size requests job (Err refusal) = goes requests (code_line refusal)
 call_effect size requests job (Ok asked) =
@@ -50,7 +49,7 @@ abbrev pub free_effect : List Request → ℕ → Effect
 free_effect requests job =
     goes (released requests job) (codes "OK\n" ++ flat_map grant_line (woken_by_release requests job))
 
--- ---- looking
+-- ---- STAT and SHOW
 
 -- a line for the key of each want
 abbrev pub statuses : List Request → ℕ → List Want → List ℕ
@@ -61,7 +60,7 @@ abbrev pub status_text : List Request → ℕ → Result (ArrayVec Want) Refusal
 status_text requests job (Ok wants) = statuses requests job wants.items
 status_text requests job (Err refusal) = code_line refusal
 
--- the lines of the requests from the place i on
+-- the lines of the requests from position i on
 abbrev pub shown_from : List Request → ℕ → List Request → List ℕ
 shown_from requests i [] = []
 shown_from requests i (r ∷ later) = request_line (granted requests i) r ++ shown_from requests (i + 1) later
@@ -71,8 +70,8 @@ show_text requests = shown_from requests 0 requests ++ codes "END\n"
 
 -- ---- lines
 
--- what line n does on a queue of some size, which asks for this; one that is not in the grammar ends the script
-abbrev pub effect_of : ℕ → ℕ → List Request → Option Asked → Effect
+-- what line n, which has this command, does on a queue of some size; a line that is not in the grammar ends the script
+abbrev pub effect_of : ℕ → ℕ → List Request → Option OwnedCommand → Effect
 effect_of size n requests None =
     record { requests = requests; text = (script_fault n).text; ending = Some (ending.Script n) }
 effect_of size n requests (Some nothing) = goes requests []
@@ -87,7 +86,7 @@ effect_of size n requests (Some quit) = record { requests = requests; text = [];
 abbrev pub continued : Effect → (List Request → Transcript Ending) → Transcript Ending
 continued e rest = after e.text (unless_ended e.ending (rest e.requests))
 
--- what lines write on a queue of some size, where n lines have come and left these requests
+-- the transcript of lines on a queue of some size, behind n lines that left these requests
 abbrev pub transcript_of : ℕ → List Request → ℕ → List (List ℕ) → Transcript Ending
 transcript_of size requests n [] = closed [] ending.Done
 transcript_of size requests n (line ∷ more) =

@@ -1,10 +1,9 @@
--- Who waits for whom (this project's profile).
-use Rattle.std.specs.Prelude.{◌≡◌, ◌<◌, ◌+◌, ℕ, Bool, false, List, [], ◌∷◌, ◌++◌, if◌then◌else◌, codes, decimal, slice_index_or, ◌*◌}
+-- What WAITS writes: who waits for whom, and the jobs in circles (this project's profile).
+use Rattle.std.specs.Prelude.{ℕ, Bool, List, [], ◌∷◌, ◌++◌, if◌then◌else◌, codes, decimal}
 use Rattle.std.specs.List.{flat_map}
 use Rattle.lock_queue.specs.Jobs.{waits_for}
 use Rattle.lock_queue.specs.Waits.{jobs, is_in_circle}
 use Rattle.lock_queue.specs.declared.request.Request.{Request}
-use Rattle.queue_script.specs.declared.circles.TheConstants.{NUMBERS}
 
 -- `j FOR k`, where the job j waits for the job k
 abbrev pub pair_line : (ℕ → ℕ → Bool) → ℕ → ℕ → List ℕ
@@ -30,13 +29,3 @@ or_none (c ∷ more) = c ∷ more
 abbrev pub waits_text : List Request → List ℕ
 waits_text requests =
     pairs_text (waits_for requests) ++ codes "CIRCLE" ++ or_none (circle_jobs (waits_for requests)) ++ codes "\n"
-
--- the pairs in a table whose rows are the jobs from 0 on: the place k of the row j says whether the job j waits for
--- the job k
-abbrev pub pair_in : List Bool → ℕ → ℕ → Bool
-pair_in pairs j k = slice_index_or pairs (NUMBERS * j + k) false
-
--- no job waits for another that is not marked as one that waits
-abbrev pub MarksWaiters : List Bool → (ℕ → ℕ → Bool) → Type 0
-MarksWaiters waiting waits =
-    (j k : ℕ) → j < NUMBERS → k < NUMBERS → slice_index_or waiting j false ≡ false → waits j k ≡ false

@@ -1,35 +1,34 @@
-//! Room for the call of a line. A call has room for 16 locks, too much to be moved for every line of
-//! a script, so each call is filled in where it stays, and the line's command borrows it.
+//! Room for the call of a line. A call has room for 16 locks, too much to move for every line of a script. So each call is
+//! filled in where it stays, and the line's command borrows it.
 ghost use Rattle.std.specs.Prelude.{◌≡◌, option_map};
-ghost use Rattle.queue_script.specs.Borrowed.{filled, called_by, lent_by};
+ghost use Rattle.queue_script.specs.Borrowed.{filled, owned_call, lent_by};
 ghost use Rattle.queue_script.specs.Commands.{request_call, change_call, release_call, release_all_call, release_id_call};
 ghost use Rattle.queue_script.specs.Locks.{locks_of, call_wants};
 ghost use Rattle.lock_queue.specs.declared.call.LockCall.TheVariants.{DequeueId};
 ghost use Rattle.lock_queue.specs.declared.terms.BlockUse.TheVariants.{Named};
 
 use crate::call_wants::read_wants;
-use crate::locks::Taken;
+use crate::locks::StoreOutcome;
 use crate::options::next_half;
 use lock_queue::{Asking, BlockUse, EnqueueKind, LockCall, Refusal, RequestId, Wants};
 use script_io::Parts;
 use word36::MOST_REQUESTS;
 
-/// How many requests a job of a script may have: more than any table holds, so that a script is never
-/// refused for that.
+/// The quota of a job in a script: more requests than any table holds, so that no call is refused for it.
 pub const QUOTA: u16 = MOST_REQUESTS as u16 + 1;
 
-/// What has come of the items of a call.
+/// What the items of a call spell.
 #[derive(Clone, Copy)]
-pub enum CallAsked<'a> {
-    /// They do not spell a call, such as where one is no lock.
+pub enum ReadCall<'a> {
+    /// No call: one of them is no lock, say.
     NoCall,
-    /// The call that they spell.
+    /// This call.
     Call(&'a LockCall),
-    /// It is refused before it is made.
+    /// A call that is refused before it is made.
     Refused(Refusal),
 }
 
-/// A call of each kind that names locks, one that names none, and the locks whose status is asked.
+/// A call of each kind that names locks, one that names none, and the locks of a STAT.
 #[derive(Drop)]
 pub struct CallRoom {
     request: LockCall,
@@ -40,7 +39,7 @@ pub struct CallRoom {
 }
 
 impl CallRoom {
-    /// Room in which nothing stands yet.
+    /// Empty room.
     pub fn new() -> Self {
         CallRoom {
             request: LockCall::DequeueAll,
@@ -59,87 +58,87 @@ impl CallRoom {
         id: RequestId,
         job: u8,
         items: Parts<'_>,
-    ) -> CallAsked<'_>
-        ensures { called_by result ≡ request_call kind id job items.entry }
+    ) -> ReadCall<'_>
+        ensures { owned_call result ≡ request_call kind id job items.entry }
     {
         match fill_request(&mut self.request, kind, id, job, items) {
-            Taken::NoLock => CallAsked::NoCall,
-            Taken::Wanted => CallAsked::Call(&self.request),
-            Taken::Refused(refusal) => CallAsked::Refused(refusal),
+            StoreOutcome::NoLock => ReadCall::NoCall,
+            StoreOutcome::Stored => ReadCall::Call(&self.request),
+            StoreOutcome::Refused(refusal) => ReadCall::Refused(refusal),
         }
     }
 
     /// A change of the locks that the items spell, or why it is refused.
-    pub fn change(&mut self, job: u8, items: Parts<'_>) -> CallAsked<'_>
-        ensures { called_by result ≡ change_call job items.entry }
+    pub fn change(&mut self, job: u8, items: Parts<'_>) -> ReadCall<'_>
+        ensures { owned_call result ≡ change_call job items.entry }
     {
         match fill_change(&mut self.change, job, items) {
-            Taken::NoLock => CallAsked::NoCall,
-            Taken::Wanted => CallAsked::Call(&self.change),
-            Taken::Refused(refusal) => CallAsked::Refused(refusal),
+            StoreOutcome::NoLock => ReadCall::NoCall,
+            StoreOutcome::Stored => ReadCall::Call(&self.change),
+            StoreOutcome::Refused(refusal) => ReadCall::Refused(refusal),
         }
     }
 
-    /// That the locks that the items spell are given up, or why it is refused.
+    /// The release of the locks that the items spell, or why it is refused.
     #[inline(always)]
-    pub fn release(&mut self, job: u8, items: Parts<'_>) -> CallAsked<'_>
-        ensures { called_by result ≡ release_call job items.entry }
+    pub fn release(&mut self, job: u8, items: Parts<'_>) -> ReadCall<'_>
+        ensures { owned_call result ≡ release_call job items.entry }
     {
         match fill_release(&mut self.release, job, items) {
-            Taken::NoLock => CallAsked::NoCall,
-            Taken::Wanted => CallAsked::Call(&self.release),
-            Taken::Refused(refusal) => CallAsked::Refused(refusal),
+            StoreOutcome::NoLock => ReadCall::NoCall,
+            StoreOutcome::Stored => ReadCall::Call(&self.release),
+            StoreOutcome::Refused(refusal) => ReadCall::Refused(refusal),
         }
     }
 
-    /// That all is given up, where no item is left.
-    pub fn release_all(&mut self, items: Parts<'_>) -> CallAsked<'_>
-        ensures { called_by result ≡ release_all_call items.entry }
+    /// The release of all requests; no call if an item is left.
+    pub fn release_all(&mut self, items: Parts<'_>) -> ReadCall<'_>
+        ensures { owned_call result ≡ release_all_call items.entry }
     {
         if !items.is_empty() {
-            return CallAsked::NoCall;
+            return ReadCall::NoCall;
         }
         self.other = LockCall::DequeueAll;
-        CallAsked::Call(&self.other)
+        ReadCall::Call(&self.other)
     }
 
-    /// That the requests of the id are given up that the one item spells.
-    pub fn release_id(&mut self, mut items: Parts<'_>) -> CallAsked<'_>
-        ensures { called_by result ≡ release_id_call items.entry }
+    /// The release of the requests of the id that the one item spells.
+    pub fn release_id(&mut self, mut items: Parts<'_>) -> ReadCall<'_>
+        ensures { owned_call result ≡ release_id_call items.entry }
     {
         let Some(id) = next_half(&mut items) else {
-            return CallAsked::NoCall;
+            return ReadCall::NoCall;
         };
         if !items.is_empty() {
-            return CallAsked::NoCall;
+            return ReadCall::NoCall;
         }
         fill_id(&mut self.other, RequestId::new(id));
-        CallAsked::Call(&self.other)
+        ReadCall::Call(&self.other)
     }
 
-    /// The locks that the items spell, or why they are refused; None where an item is no lock.
+    /// The locks that the items spell, or why they are refused; None if an item is no lock.
     pub fn keys(&mut self, job: u8, items: Parts<'_>) -> Option<Result<&Wants, Refusal>>
         ensures { lent_by result ≡ option_map (call_wants job Named) (locks_of items.entry) }
     {
         match read_wants(items, job, BlockUse::Named, &mut self.keys) {
-            Taken::NoLock => None,
-            Taken::Wanted => Some(Ok(&self.keys)),
-            Taken::Refused(refusal) => Some(Err(refusal)),
+            StoreOutcome::NoLock => None,
+            StoreOutcome::Stored => Some(Ok(&self.keys)),
+            StoreOutcome::Refused(refusal) => Some(Err(refusal)),
         }
     }
 }
 
-/// Fills in that the requests of an id are given up. Where that stood before, its room is not written.
+/// Fills in the release of an id. If the call was one before, only the id is written.
 fn fill_id(call: &mut LockCall, id: RequestId)
     ensures { call.new ≡ DequeueId id }
 {
     match call {
-        LockCall::DequeueId(place) => *place = id,
+        LockCall::DequeueId(held) => *held = id,
         _ => *call = LockCall::DequeueId(id),
     }
 }
 
-/// Fills in a request where another call stood.
+/// Fills in a request over another call.
 #[inline(never)]
 fn replace_by_request(
     call: &mut LockCall,
@@ -147,7 +146,7 @@ fn replace_by_request(
     id: RequestId,
     job: u8,
     items: Parts<'_>,
-) -> Taken
+) -> StoreOutcome
     ensures { filled result call.new ≡ request_call kind id job items.entry }
 {
     let mut wants = Wants::new();
@@ -164,9 +163,9 @@ fn replace_by_request(
     answer
 }
 
-/// Fills in a change where another call stood.
+/// Fills in a change over another call.
 #[inline(never)]
-fn replace_by_change(call: &mut LockCall, job: u8, items: Parts<'_>) -> Taken
+fn replace_by_change(call: &mut LockCall, job: u8, items: Parts<'_>) -> StoreOutcome
     ensures { filled result call.new ≡ change_call job items.entry }
 {
     let mut wants = Wants::new();
@@ -175,9 +174,9 @@ fn replace_by_change(call: &mut LockCall, job: u8, items: Parts<'_>) -> Taken
     answer
 }
 
-/// Fills in what is given up where another call stood.
+/// Fills in a release over another call.
 #[inline(never)]
-fn replace_by_release(call: &mut LockCall, job: u8, items: Parts<'_>) -> Taken
+fn replace_by_release(call: &mut LockCall, job: u8, items: Parts<'_>) -> StoreOutcome
     ensures { filled result call.new ≡ release_call job items.entry }
 {
     let mut wants = Wants::new();
@@ -186,7 +185,7 @@ fn replace_by_release(call: &mut LockCall, job: u8, items: Parts<'_>) -> Taken
     answer
 }
 
-/// Fills in a request for the locks that the items spell, or says why it is refused.
+/// Fills in a request for the locks that the items spell, or returns why it is refused.
 #[inline(always)]
 fn fill_request(
     call: &mut LockCall,
@@ -194,7 +193,7 @@ fn fill_request(
     id: RequestId,
     job: u8,
     items: Parts<'_>,
-) -> Taken
+) -> StoreOutcome
     ensures { filled result call.new ≡ request_call kind id job items.entry }
 {
     match call {
@@ -209,8 +208,8 @@ fn fill_request(
     }
 }
 
-/// Fills in a change of the locks that the items spell, or says why it is refused.
-fn fill_change(call: &mut LockCall, job: u8, items: Parts<'_>) -> Taken
+/// Fills in a change of the locks that the items spell, or returns why it is refused.
+fn fill_change(call: &mut LockCall, job: u8, items: Parts<'_>) -> StoreOutcome
     ensures { filled result call.new ≡ change_call job items.entry }
 {
     match call {
@@ -219,9 +218,9 @@ fn fill_change(call: &mut LockCall, job: u8, items: Parts<'_>) -> Taken
     }
 }
 
-/// Fills in that the locks that the items spell are given up, or says why it is refused.
+/// Fills in the release of the locks that the items spell, or returns why it is refused.
 #[inline(always)]
-fn fill_release(call: &mut LockCall, job: u8, items: Parts<'_>) -> Taken
+fn fill_release(call: &mut LockCall, job: u8, items: Parts<'_>) -> StoreOutcome
     ensures { filled result call.new ≡ release_call job items.entry }
 {
     match call {

@@ -1,29 +1,29 @@
 //! The commands of a script on the lock queue.
 ghost use Rattle.std.specs.Prelude.{◌≡◌, ◌<◌, ◌^◌, None, is_some, IfSome, MatchOption};
-ghost use Rattle.queue_script.specs.Borrowed.{called_by, asked_by, asked_by_line};
-ghost use Rattle.queue_script.specs.Commands.{job_of, asked_call, enqueue_call, dequeue_call, unknown_call, enqueue_of, dequeue_of};
+ghost use Rattle.queue_script.specs.Borrowed.{owned_call, owned_of, owned_command};
+ghost use Rattle.queue_script.specs.Commands.{job_of, call_by, enqueue_call, dequeue_call, unknown_call, enqueue_of, dequeue_of};
 ghost use Rattle.queue_script.specs.Commands.{status_of_items, free_of, bare, command_of_items, command_of};
 ghost use Rattle.queue_script.specs.Locks.{locks_of};
 ghost use Rattle.script_io.specs.Numbers.{front, IsFront, parts};
 ghost use Rattle.queue_script.specs.Options.{half_of};
 
-use crate::call_room::{CallAsked, CallRoom};
+use crate::call_room::{CallRoom, ReadCall};
 use crate::locks::read_lock;
 use crate::options::next_half;
 use lock_queue::{EnqueueKind, LockCall, Refusal, RequestId, Wants};
 use script_io::{LINE_LENGTH, Parts, is_allowed, is_silent};
 use word36::JOBS;
 
-/// What a line asks for. The locks that it names stand in the room that it was read into.
+/// The command of a line. The locks that it names stand in the room that it was read into.
 #[derive(Clone, Copy)]
 pub enum Command<'a> {
     /// Nothing: the line is empty or a comment.
     Nothing,
     /// ENQ or DEQ of a job: its call.
     Call(u8, &'a LockCall),
-    /// ENQ or DEQ of a job: why its call is refused before it is made.
+    /// ENQ or DEQ of a job whose call is refused before it is made, and why.
     Refused(u8, Refusal),
-    /// STAT: what a job is told of these locks, or why it is told nothing.
+    /// STAT: the status of these locks for a job, or why there is none.
     Status(u8, Result<&'a Wants, Refusal>),
     /// FREE: all requests of a job leave.
     Free(u8),
@@ -57,14 +57,14 @@ fn are_locks(mut items: Parts<'_>) -> bool
     true
 }
 
-/// The call of a function that there is not: it is refused, whatever its locks.
-fn unknown_call<'a>(items: Parts<'_>) -> CallAsked<'a>
-    ensures { called_by result ≡ unknown_call items.entry }
+/// The call of an unknown function: it is refused, whatever its locks.
+fn unknown_call<'a>(items: Parts<'_>) -> ReadCall<'a>
+    ensures { owned_call result ≡ unknown_call items.entry }
 {
     if are_locks(items) {
-        CallAsked::Refused(Refusal::NoFunction)
+        ReadCall::Refused(Refusal::NoFunction)
     } else {
-        CallAsked::NoCall
+        ReadCall::NoCall
     }
 }
 
@@ -76,8 +76,8 @@ fn enqueue_call<'a>(
     id: RequestId,
     job: u8,
     items: Parts<'_>,
-) -> CallAsked<'a>
-    ensures { called_by result ≡ enqueue_call function id job items.entry }
+) -> ReadCall<'a>
+    ensures { owned_call result ≡ enqueue_call function id job items.entry }
 {
     match function {
         0 => room.request(EnqueueKind::Blocking, id, job, items),
@@ -88,22 +88,22 @@ fn enqueue_call<'a>(
     }
 }
 
-/// What a line asks for that is a call of this job.
+/// The command for a call of this job.
 #[inline(always)]
-fn call_of<'a>(job: u8, asked: CallAsked<'a>) -> Option<Command<'a>>
-    ensures { asked_by_line result ≡ asked_call job (called_by asked.entry) }
+fn call_of<'a>(job: u8, asked: ReadCall<'a>) -> Option<Command<'a>>
+    ensures { owned_command result ≡ call_by job (owned_call asked.entry) }
 {
     match asked {
-        CallAsked::NoCall => None,
-        CallAsked::Call(call) => Some(Command::Call(job, call)),
-        CallAsked::Refused(refusal) => Some(Command::Refused(job, refusal)),
+        ReadCall::NoCall => None,
+        ReadCall::Call(call) => Some(Command::Call(job, call)),
+        ReadCall::Refused(refusal) => Some(Command::Refused(job, refusal)),
     }
 }
 
 /// What follows ENQ.
 #[inline(always)]
 fn read_enqueue<'a>(room: &'a mut CallRoom, mut items: Parts<'_>) -> Option<Command<'a>>
-    ensures { asked_by_line result ≡ enqueue_of items.entry }
+    ensures { owned_command result ≡ enqueue_of items.entry }
 {
     let job = next_job(&mut items)?;
     let function = next_half(&mut items)?;
@@ -118,8 +118,8 @@ fn dequeue_call<'a>(
     function: u32,
     job: u8,
     items: Parts<'_>,
-) -> CallAsked<'a>
-    ensures { called_by result ≡ dequeue_call function job items.entry }
+) -> ReadCall<'a>
+    ensures { owned_call result ≡ dequeue_call function job items.entry }
 {
     match function {
         0 => room.release(job, items),
@@ -132,7 +132,7 @@ fn dequeue_call<'a>(
 /// What follows DEQ.
 #[inline(always)]
 fn read_dequeue<'a>(room: &'a mut CallRoom, mut items: Parts<'_>) -> Option<Command<'a>>
-    ensures { asked_by_line result ≡ dequeue_of items.entry }
+    ensures { owned_command result ≡ dequeue_of items.entry }
 {
     let job = next_job(&mut items)?;
     let function = next_half(&mut items)?;
@@ -142,7 +142,7 @@ fn read_dequeue<'a>(room: &'a mut CallRoom, mut items: Parts<'_>) -> Option<Comm
 /// What follows STAT.
 #[inline(always)]
 fn read_status<'a>(room: &'a mut CallRoom, mut items: Parts<'_>) -> Option<Command<'a>>
-    ensures { asked_by_line result ≡ status_of_items items.entry }
+    ensures { owned_command result ≡ status_of_items items.entry }
 {
     let job = next_job(&mut items)?;
     let keys = room.keys(job, items)?;
@@ -151,7 +151,7 @@ fn read_status<'a>(room: &'a mut CallRoom, mut items: Parts<'_>) -> Option<Comma
 
 /// What follows FREE.
 fn read_free<'a>(mut items: Parts<'_>) -> Option<Command<'a>>
-    ensures { asked_by_line result ≡ free_of items.entry }
+    ensures { owned_command result ≡ free_of items.entry }
 {
     let job = next_job(&mut items)?;
     if !items.is_empty() {
@@ -162,7 +162,7 @@ fn read_free<'a>(mut items: Parts<'_>) -> Option<Command<'a>>
 
 /// A command that stands alone.
 fn bare<'a>(command: Command<'a>, items: Parts<'_>) -> Option<Command<'a>>
-    ensures { asked_by_line result ≡ bare (asked_by command.entry) items.entry }
+    ensures { owned_command result ≡ bare (owned_of command.entry) items.entry }
 {
     if items.is_empty() {
         Some(command)
@@ -173,7 +173,7 @@ fn bare<'a>(command: Command<'a>, items: Parts<'_>) -> Option<Command<'a>>
 
 /// The command of a line's items.
 fn read_items<'a>(room: &'a mut CallRoom, mut items: Parts<'_>) -> Option<Command<'a>>
-    ensures { asked_by_line result ≡ command_of_items items.entry }
+    ensures { owned_command result ≡ command_of_items items.entry }
 {
     let name = items.next()?;
     if name == b"ENQ".as_slice() {
@@ -195,10 +195,10 @@ fn read_items<'a>(room: &'a mut CallRoom, mut items: Parts<'_>) -> Option<Comman
     }
 }
 
-/// The command of a line. The names that stand before most commands are told at once.
+/// The command of a line. The three names that most lines begin with are tried first.
 #[tactic(auto, using(crate::proofs::WordLemmas::words_enqueue_at, crate::proofs::WordLemmas::words_dequeue_at, crate::proofs::WordLemmas::words_status_at))]
-fn read_words<'a>(room: &'a mut CallRoom, line: &[u8]) -> Option<Command<'a>>
-    ensures { asked_by_line result ≡ command_of_items (parts 32 line.now) }
+fn read_line<'a>(room: &'a mut CallRoom, line: &[u8]) -> Option<Command<'a>>
+    ensures { owned_command result ≡ command_of_items (parts 32 line.now) }
 {
     if let [b'E', b'N', b'Q', b' ', items @ ..] = line {
         return read_enqueue(room, Parts::of(items, b' '));
@@ -212,12 +212,11 @@ fn read_words<'a>(room: &'a mut CallRoom, line: &[u8]) -> Option<Command<'a>>
     read_items(room, Parts::of(line, b' '))
 }
 
-/// What a line asks for, if it is in the grammar. The locks that it names stand in the room, whatever
-/// stood there before. Only a line that does nothing is asked whether it is ASCII, since whatever spells
-/// a command is.
+/// The command of a line, if the line is in the grammar. The locks that it names stand in the room, whatever stood there
+/// before. Only a line that does nothing is tested for ASCII, since whatever spells a command is ASCII.
 #[tactic(auto, unfolding(crate::specs::Commands::command_of))]
 pub fn read_command<'a>(room: &'a mut CallRoom, line: &[u8]) -> Option<Command<'a>>
-    ensures { asked_by_line result ≡ command_of line.now }
+    ensures { owned_command result ≡ command_of line.now }
 {
     if is_silent(line) {
         return if is_allowed(line) {
@@ -229,5 +228,5 @@ pub fn read_command<'a>(room: &'a mut CallRoom, line: &[u8]) -> Option<Command<'
     if line.len() > LINE_LENGTH {
         return None;
     }
-    read_words(room, line)
+    read_line(room, line)
 }

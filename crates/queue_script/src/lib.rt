@@ -3,7 +3,6 @@
 
 mod call_room;
 mod call_wants;
-pub mod circles;
 mod commands;
 mod locks;
 mod options;
@@ -17,4 +16,4 @@ pub use locks::{CODE_DIGITS, MOST_CODE};
 pub use options::{MOST_HALF, MOST_LEVEL, read_half};
 pub use printing::{push_code, push_request};
 pub use queue_scripts::{QueueService, push_requests, serve_queue};
-pub use wait_pairs::{pair_table, push_waits, waiting_jobs};
+pub use wait_pairs::push_waits;

@@ -1,9 +1,10 @@
 //! The locks of a command.
-ghost use Rattle.std.specs.Prelude.{◌≡◌, ◌≢◌, ◌<◌, ◌≤◌, ◌+◌, ◌++◌, ◌∷◌, true, [], length, take, ◌^◌, None, Some, Ok, IfSome};
+ghost use Rattle.std.specs.Prelude.{◌≡◌, ◌≢◌, ◌<◌, ◌≤◌, ◌+◌, ◌++◌, ◌∷◌};
+ghost use Rattle.std.specs.Prelude.{true, [], length, take, ◌^◌, None, Some, Ok, IfSome};
 ghost use Rattle.std.specs.List.{list_all};
 ghost use Rattle.script_io.specs.Numbers.{is_digit, parts, texts_in};
 ghost use Rattle.queue_script.specs.Locks.{is_name_character, user_code, name_of_characters, name_of, lock_of, want_of_name};
-ghost use Rattle.queue_script.specs.Locks.{IsFirstLock, plain_want, key_of, terms_of, TakesWant, Takes, TakesFirst};
+ghost use Rattle.queue_script.specs.Locks.{IsFirstLock, plain_want, key_of, terms_of, StoresWant, Stores, StoresFirst};
 ghost use Rattle.queue_script.specs.Options.{is_option_character};
 ghost use Rattle.queue_script.specs.declared.locks.LockName.{LockName};
 ghost use Rattle.queue_script.specs.declared.locks.LockName.TheVariants.{Spelled, Coded};
@@ -80,8 +81,7 @@ pub fn is_name_character(character: u8) -> bool
     NAME_CHARACTERS[usize::from(character)] == 1
 }
 
-/// How many characters at the front of a text a name may have. They are looked at by fours while there
-/// are four.
+/// How many characters at the front of a text can belong to a name. They are tested four at a time, while there are four.
 #[inline(always)]
 #[tactic(auto, using(crate::proofs::LockLemmas::named_one, crate::proofs::LockLemmas::named_two, crate::proofs::LockLemmas::named_three, crate::proofs::LockLemmas::named_four))]
 fn name_length(text: &[u8]) -> usize
@@ -182,14 +182,14 @@ pub fn read_lock(item: &[u8]) -> Option<Lock<'_>>
     Some(Lock { name, options })
 }
 
-/// What has come of items that a call wants the locks of.
+/// What was done with a lock, or the locks, of a call.
 #[derive(Clone, Copy)]
-pub enum Taken {
-    /// One is no lock.
+pub enum StoreOutcome {
+    /// Nothing: an item is no lock.
     NoLock,
-    /// What is wanted of their locks stands where it is to stand.
-    Wanted,
-    /// What is wanted of them is refused.
+    /// The wants were stored.
+    Stored,
+    /// A want is refused.
     Refused(Refusal),
 }
 
@@ -202,16 +202,16 @@ fn key_of(job: u8, name: Name, own: bool) -> Key
     Key { scope, name }
 }
 
-/// Puts a want at a place of the list: over the one there, or last.
+/// Puts a want at a position of the list: over the one there, or last.
 #[inline(always)]
-fn put(wants: &mut Wants, place: usize, want: Want)
-    requires within { place ≤ array_vec_len wants.old }
-    requires room { place < LOCKS_A_CALL }
-    ensures items { take (place + 1) wants.new.items ≡ take place wants.old.items ++ want ∷ [] }
-    ensures long { place + 1 ≤ array_vec_len wants.new }
+fn put(wants: &mut Wants, position: usize, want: Want)
+    requires within { position ≤ array_vec_len wants.old }
+    requires room { position < LOCKS_A_CALL }
+    ensures items { take (position + 1) wants.new.items ≡ take position wants.old.items ++ want ∷ [] }
+    ensures long { position + 1 ≤ array_vec_len wants.new }
 {
-    if place < wants.len() {
-        wants[place] = want;
+    if position < wants.len() {
+        wants[position] = want;
     } else {
         wants.push(want);
     }
@@ -239,60 +239,61 @@ fn simple_want(block_use: BlockUse, key: Key, options: Options) -> Want
     }
 }
 
-/// Takes what a call wants of the lock of this name.
+/// Stores what a call wants of the lock of this name, or refuses it.
 #[inline(always)]
-fn take_named(
+fn store_or_refuse(
     name: Name,
     options: Options,
     job: u8,
     block_use: BlockUse,
     wants: &mut Wants,
-    place: usize,
-) -> Taken
-    requires within { place ≤ array_vec_len wants.old }
-    requires room { place < LOCKS_A_CALL }
-    ensures { TakesWant (want_on block_use (key_of job name options.own) (terms_of options)) place wants.old.items wants.new.items result }
+    position: usize,
+) -> StoreOutcome
+    requires within { position ≤ array_vec_len wants.old }
+    requires room { position < LOCKS_A_CALL }
+    ensures { StoresWant (want_on block_use (key_of job name options.own) (terms_of options)) position
+        wants.old.items wants.new.items result }
 {
     let key = key_of(job, name, options.own);
     if options.group.is_none() && options.pool.is_none() {
-        put(wants, place, simple_want(block_use, key, options));
-        return Taken::Wanted;
+        put(wants, position, simple_want(block_use, key, options));
+        return StoreOutcome::Stored;
     }
     match Want::on(block_use, key, options.terms()) {
         Ok(want) => {
-            put(wants, place, want);
-            Taken::Wanted
+            put(wants, position, want);
+            StoreOutcome::Stored
         }
-        Err(refusal) => Taken::Refused(refusal),
+        Err(refusal) => StoreOutcome::Refused(refusal),
     }
 }
 
-/// Takes what a call wants of the lock of this name in characters. Here it is copied.
+/// The same for a name in characters, which is copied here.
 #[inline(always)]
-fn take_spelled(
+fn store_spelled(
     name: Characters<'_>,
     options: Options,
     job: u8,
     block_use: BlockUse,
     wants: &mut Wants,
-    place: usize,
-) -> Taken
-    requires within { place ≤ array_vec_len wants.old }
-    requires room { place < LOCKS_A_CALL }
-    ensures { TakesWant (want_of_name job block_use (Spelled name.entry) options) place wants.old.items wants.new.items result }
+    position: usize,
+) -> StoreOutcome
+    requires within { position ≤ array_vec_len wants.old }
+    requires room { position < LOCKS_A_CALL }
+    ensures { StoresWant (want_of_name job block_use (Spelled name.entry) options) position wants.old.items wants.new.items result }
 {
     match NameText::new(name.text) {
-        Some(text) => take_named(Name::Text(text), options, job, block_use, wants, place),
-        None => Taken::Refused(Refusal::BadName),
+        Some(text) => store_or_refuse(Name::Text(text), options, job, block_use, wants, position),
+        None => StoreOutcome::Refused(Refusal::BadName),
     }
 }
 
-/// Takes what any call wants of the lock of a name alone. Here the name is copied.
+/// The same for a name in characters without options, of any call.
 #[inline(always)]
-fn take_plain(name: Characters<'_>, wants: &mut Wants, place: usize) -> Taken
-    requires within { place ≤ array_vec_len wants.old }
-    requires room { place < LOCKS_A_CALL }
-    ensures { TakesWant (plain_want name.entry) place wants.old.items wants.new.items result }
+fn store_plain(name: Characters<'_>, wants: &mut Wants, position: usize) -> StoreOutcome
+    requires within { position ≤ array_vec_len wants.old }
+    requires room { position < LOCKS_A_CALL }
+    ensures { StoresWant (plain_want name.entry) position wants.old.items wants.new.items result }
 {
     match NameText::new(name.text) {
         Some(text) => {
@@ -307,48 +308,56 @@ fn take_plain(name: Characters<'_>, wants: &mut Wants, place: usize) -> Taken
                 level: Level::new(0),
                 pool: None,
             };
-            put(wants, place, want);
-            Taken::Wanted
+            put(wants, position, want);
+            StoreOutcome::Stored
         }
-        None => Taken::Refused(Refusal::BadName),
+        None => StoreOutcome::Refused(Refusal::BadName),
     }
 }
 
-/// Takes what a call wants of the lock that an item spells, whatever its form.
+/// Stores what a call wants of the lock that an item spells, whatever its form.
 #[inline(never)]
-fn take_item(item: &[u8], job: u8, block_use: BlockUse, wants: &mut Wants, place: usize) -> Taken
-    requires within { place ≤ array_vec_len wants.old }
-    requires room { place < LOCKS_A_CALL }
-    ensures { Takes job block_use (lock_of item.now) place wants.old.items wants.new.items result }
+fn store_item(
+    item: &[u8],
+    job: u8,
+    block_use: BlockUse,
+    wants: &mut Wants,
+    position: usize,
+) -> StoreOutcome
+    requires within { position ≤ array_vec_len wants.old }
+    requires room { position < LOCKS_A_CALL }
+    ensures { Stores job block_use (lock_of item.now) position wants.old.items wants.new.items result }
 {
     match read_lock(item) {
-        None => Taken::NoLock,
+        None => StoreOutcome::NoLock,
         Some(Lock { name, options }) => match name {
             LockName::Coded(code) => {
-                take_named(Name::Code(code), options, job, block_use, wants, place)
+                store_or_refuse(Name::Code(code), options, job, block_use, wants, position)
             }
-            LockName::Spelled(name) => take_spelled(name, options, job, block_use, wants, place),
+            LockName::Spelled(name) => store_spelled(
+                name, options, job, block_use, wants, position,
+            ),
         },
     }
 }
 
-/// Takes what a call wants of the lock that the first of some items spells, whatever its form.
+/// Takes the first of some items, and stores what a call wants of its lock, whatever its form.
 #[inline(always)]
 fn take_next(
     items: &mut Parts<'_>,
     job: u8,
     block_use: BlockUse,
     wants: &mut Wants,
-    place: usize,
-) -> Taken
+    position: usize,
+) -> StoreOutcome
     requires some { items.old ≢ [] }
-    requires within { place ≤ array_vec_len wants.old }
-    requires room { place < LOCKS_A_CALL }
-    ensures { TakesFirst job block_use items.old items.new place wants.old.items wants.new.items result }
+    requires within { position ≤ array_vec_len wants.old }
+    requires room { position < LOCKS_A_CALL }
+    ensures { StoresFirst job block_use items.old items.new position wants.old.items wants.new.items result }
 {
     match items.next() {
-        Some(item) => take_item(item, job, block_use, wants, place),
-        None => Taken::NoLock,
+        Some(item) => store_item(item, job, block_use, wants, position),
+        None => StoreOutcome::NoLock,
     }
 }
 
@@ -360,8 +369,7 @@ fn is_octal_digit(character: u8) -> bool
     character >= b'0' && character <= b'7'
 }
 
-/// The name in bits that stands in front of a text, and its length. What follows it may be more than
-/// its end.
+/// The name in bits at the front of a text, and its length. Anything may follow it.
 #[inline(always)]
 fn front_code(text: &[u8]) -> Option<(UserCode, usize)>
     ensures within { IfSome result (λ r. r.1 ≤ length text.now) }
@@ -386,8 +394,8 @@ fn front_code(text: &[u8]) -> Option<(UserCode, usize)>
     Some((UserCode::new(number), count))
 }
 
-/// The options behind a name of so many characters that stands in front of some items, and the items
-/// behind them. None where they are not right.
+/// The options behind a name of `count` characters at the front of some items, and the items behind them. None if an option is
+/// wrong.
 #[inline(always)]
 fn options_behind(text: &[u8], count: usize) -> Option<(Options, Option<&[u8]>)>
     requires within { count ≤ length text.now }
@@ -408,72 +416,70 @@ fn options_behind(text: &[u8], count: usize) -> Option<(Options, Option<&[u8]>)>
     front_options(behind)
 }
 
-/// Takes what a call wants of the lock that the first of some items spells, where that is more than a
-/// name in characters: options stand behind the name, or it is a name in bits. `count` is how many
-/// characters at the front a name in characters may have.
+/// Takes the first of some items, and stores what a call wants of its lock, which is more than a name in characters: it has
+/// options, or it is a name in bits. `count` is how many characters at the front can belong to a name.
 #[inline(always)]
-fn take_longer<'a>(
+fn take_with_options<'a>(
     items: &mut Parts<'a>,
     text: &'a [u8],
     count: usize,
     job: u8,
     block_use: BlockUse,
     wants: &mut Wants,
-    place: usize,
-) -> Taken
+    position: usize,
+) -> StoreOutcome
     requires text { items.old ≡ parts 32 text.now }
     requires count { 0 < count → count < length text.now }
     requires named { list_all is_name_character (take count text.now) ≡ true }
-    requires within { place ≤ array_vec_len wants.old }
-    requires room { place < LOCKS_A_CALL }
-    ensures { TakesFirst job block_use items.old items.new place wants.old.items wants.new.items result }
+    requires within { position ≤ array_vec_len wants.old }
+    requires room { position < LOCKS_A_CALL }
+    ensures { StoresFirst job block_use items.old items.new position wants.old.items wants.new.items result }
 {
     if count > 0 {
         if text[count] == b'/' {
             if let Some((options, others)) = front_options(&text[count + 1..]) {
                 *items = Parts::between_blanks(others);
                 let name = spelled(&text[..count]);
-                return take_spelled(name, options, job, block_use, wants, place);
+                return store_spelled(name, options, job, block_use, wants, position);
             }
         }
     } else if let Some((code, count)) = front_code(text) {
         if let Some((options, others)) = options_behind(text, count) {
             *items = Parts::between_blanks(others);
-            return take_named(Name::Code(code), options, job, block_use, wants, place);
+            return store_or_refuse(Name::Code(code), options, job, block_use, wants, position);
         }
     }
-    take_next(items, job, block_use, wants, place)
+    take_next(items, job, block_use, wants, position)
 }
 
-/// Takes what a call wants of the lock that the first of some items spells: most locks are gone over
-/// once.
+/// Takes the first of some items, and stores what a call wants of its lock; most locks are read in one pass.
 #[inline(always)]
 pub fn take_first(
     items: &mut Parts<'_>,
     job: u8,
     block_use: BlockUse,
     wants: &mut Wants,
-    place: usize,
-) -> Taken
+    position: usize,
+) -> StoreOutcome
     requires some { items.old ≢ [] }
-    requires within { place ≤ array_vec_len wants.old }
-    requires room { place < LOCKS_A_CALL }
-    ensures { TakesFirst job block_use items.old items.new place wants.old.items wants.new.items result }
+    requires within { position ≤ array_vec_len wants.old }
+    requires room { position < LOCKS_A_CALL }
+    ensures { StoresFirst job block_use items.old items.new position wants.old.items wants.new.items result }
 {
     let Some(text) = items.left() else {
-        return take_next(items, job, block_use, wants, place);
+        return take_next(items, job, block_use, wants, position);
     };
     let count = name_length(text);
     if count > 0 {
         let name = &text[..count];
         if count == text.len() {
             *items = Parts::between_blanks(None);
-            return take_plain(spelled(name), wants, place);
+            return store_plain(spelled(name), wants, position);
         }
         if text[count] == b' ' {
             *items = Parts::between_blanks(Some(&text[count + 1..]));
-            return take_plain(spelled(name), wants, place);
+            return store_plain(spelled(name), wants, position);
         }
     }
-    take_longer(items, text, count, job, block_use, wants, place)
+    take_with_options(items, text, count, job, block_use, wants, position)
 }

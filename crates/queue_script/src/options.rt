@@ -3,7 +3,8 @@ ghost use Rattle.std.specs.Prelude.{◌≡◌, ◌^◌, ◌<◌, ◌≤◌, true
 ghost use Rattle.std.specs.List.{list_all};
 ghost use Rattle.script_io.specs.Numbers.{front, IsFront, parts, texts_in};
 ghost use Rattle.queue_script.specs.Locks.{terms_of};
-ghost use Rattle.queue_script.specs.Options.{half_of, option_of, pool_of, with_option, options_from, no_options, is_option_character, SpellsOptions};
+ghost use Rattle.queue_script.specs.Options.{half_of, option_of, pool_of, with_option, options_from};
+ghost use Rattle.queue_script.specs.Options.{no_options, is_option_character, SpellsOptions};
 
 use lock_queue::{Group, Level, Terms};
 use script_io::{Parts, number};
@@ -28,9 +29,9 @@ pub struct PoolOption {
 pub enum LockOption {
     /// `/S`: others may share the lock.
     Shared,
-    /// `/Gn`: of those who share, it goes with this group.
+    /// `/Gn`: those of this group share the lock.
     Group(Group),
-    /// `/B`: the rule of rising levels is not asked of it.
+    /// `/B`: the rule of rising levels does not apply to it.
     Bypass,
     /// `/Ln`: its level.
     Level(Level),
@@ -47,7 +48,7 @@ pub struct Options {
     pub shared: bool,
     /// Its group among those who share, if it is given.
     pub group: Option<Group>,
-    /// Whether the rule of rising levels is not asked of it.
+    /// Whether the rule of rising levels does not apply to it.
     pub bypass: bool,
     /// Its level, if it is given.
     pub level: Option<Level>,
@@ -69,7 +70,7 @@ pub fn read_half(text: &[u8]) -> Option<u32>
     }
 }
 
-/// Takes a number of 18 bits from the front of the items.
+/// Stores a number of 18 bits from the front of the items.
 #[inline(always)]
 pub fn next_half(items: &mut Parts<'_>) -> Option<u32>
     ensures value { MatchOption result (front half_of items.old ≡ None) (λ n. IsFront half_of n items.old items.new) }
@@ -144,7 +145,7 @@ impl Options {
         }
     }
 
-    /// These and one more, which is not among them.
+    /// These and one more; None if one of its kind is among them.
     fn with(self, option: LockOption) -> Option<Self>
         ensures { result ≡ with_option self option }
     {
@@ -201,7 +202,7 @@ fn is_option_character(character: u8) -> bool
     character != b'/' && character != b' '
 }
 
-/// How long the option is that stands in front of some items.
+/// The length of the option at the front of some items.
 #[inline(always)]
 fn option_length(text: &[u8]) -> usize
     ensures within { result ≤ length text.now }
@@ -215,14 +216,14 @@ fn option_length(text: &[u8]) -> usize
     text.len()
 }
 
-/// Whether no more characters of an option stand in front of a text.
+/// Whether an option ends before this text.
 #[inline(always)]
 fn is_at_end(text: &[u8]) -> bool {
     text.is_empty() || !is_option_character(text[0])
 }
 
-/// The option that stands in front of a text, and its length. What follows it may be more than its end.
-/// A level of one digit, and a letter alone, are told at once.
+/// The option at the front of a text, and its length. Anything may follow it. A level of one digit and a letter alone are tried
+/// first.
 #[inline(always)]
 #[tactic(auto, using(crate::proofs::OptionLemmas::level_apart))]
 fn front_option(text: &[u8]) -> Option<(LockOption, usize)>
@@ -247,8 +248,8 @@ fn front_option(text: &[u8]) -> Option<(LockOption, usize)>
     Some((read_option(&text[..length])?, length))
 }
 
-/// The options that stand in front of some items, each but the first behind a `/`, and those items:
-/// they are gone over once. None where they are not right.
+/// The options at the front of some items, each but the first behind a `/`, and the items behind them, read in one pass. None
+/// if an option is wrong.
 #[inline(always)]
 pub fn front_options(text: &[u8]) -> Option<(Options, Option<&[u8]>)>
     ensures { IfSome result (λ r. SpellsOptions no_options text.now r.0 (texts_in 32 r.1)) }

@@ -1,7 +1,8 @@
 //! The lines that commands on the lock queue write.
 ghost use Rattle.std.specs.Prelude.{◌≡◌, ◌++◌, [], if◌then◌else◌, OnOk};
 ghost use Rattle.std.specs.List.{flat_map};
-ghost use Rattle.queue_script.specs.Printing.{code_line, reply_line, grant_line, status_line, name_character, name_text, group_text, level_text};
+ghost use Rattle.queue_script.specs.Printing.{code_line, reply_line, grant_line, status_line, name_character};
+ghost use Rattle.queue_script.specs.Printing.{name_text, group_text, level_text};
 ghost use Rattle.queue_script.specs.Printing.{pool_text, scope_text, want_text, kind_number, wants_text, request_line};
 
 use crate::locks::is_name_character;
@@ -75,7 +76,7 @@ pub fn push_grants(out: &mut Vec<u8>, grants: &[Grant]) -> Result<(), AllocError
     Ok(())
 }
 
-/// Adds the line of three words that tells a status.
+/// Adds the line of a status, three words.
 #[tactic(auto, using(std::proofs::Common::append_assoc))]
 pub fn push_status(out: &mut Vec<u8>, status: &Status) -> Result<(), AllocError>
     ensures { OnOk result (out.new.items ≡ out.old.items ++ status_line status.now) }

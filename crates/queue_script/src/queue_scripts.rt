@@ -1,11 +1,13 @@
 //! Scripts on the lock queue.
-ghost use Rattle.std.specs.Prelude.{◌≡◌, ◌+◌, ◌^◌, ◌≤◌, ◌++◌, ◌∷◌, [], ℕ, List, Ok, Err, false, OnOk, IfOk, IfErr, IsTrue};
+ghost use Rattle.std.specs.Prelude.{◌≡◌, ◌+◌, ◌^◌, ◌≤◌, ◌++◌, ◌∷◌};
+ghost use Rattle.std.specs.Prelude.{[], ℕ, List, Ok, Err, false, OnOk, IfOk, IfErr, IsTrue};
 ghost use Rattle.std.specs.Str.Lines.{lines};
 ghost use Rattle.queue_script.specs.QueueScripts.{effect_of, call_effect, unless_busy, free_effect, statuses};
 ghost use Rattle.queue_script.specs.QueueScripts.{status_text, show_text, transcript_of, transcript};
-ghost use Rattle.queue_script.specs.Asks.{asks_right};
-ghost use Rattle.queue_script.specs.Borrowed.{asked_by_line, lent};
+ghost use Rattle.queue_script.specs.WellFormed.{is_well_formed};
+ghost use Rattle.queue_script.specs.Borrowed.{owned_command, lent};
 ghost use Rattle.lock_queue.specs.WellFormed.{is_call};
+ghost use Rattle.word36.specs.declared.sizes.TheConstants.{MOST_REQUESTS};
 ghost use Rattle.script_io.specs.Endings.{script_fault, served_as};
 ghost use Rattle.script_io.specs.Serves.{Serves, Blames};
 
@@ -20,7 +22,7 @@ use script_io::{
 };
 use std::alloc::{AllocError, Global};
 
-/// Makes a call of a job that does not wait, and adds its answer and the grants that it makes.
+/// Makes a call of a job that does not wait, and adds its answer and the grants that it causes.
 #[tactic(auto, using(std::proofs::Common::append_assoc))]
 fn make_call<L: LockTable>(
     table: &mut L,
@@ -38,7 +40,7 @@ fn make_call<L: LockTable>(
     push_grants(out, woken.as_slice())
 }
 
-/// Makes a call of a job, unless the job waits.
+/// Makes a call of a job, or adds BUSY if the job waits.
 fn call_unless_busy<L: LockTable>(
     table: &mut L,
     job: u8,
@@ -52,14 +54,14 @@ fn call_unless_busy<L: LockTable>(
     ensures text { OnOk result (out.new.items
         ≡ out.old.items ++ (unless_busy (L.requests table.old) job (call_effect L.REQS (L.requests table.old) job (Ok call.now))).text) }
 {
-    if table.waiting(job) {
+    if table.is_waiting(job) {
         out.extend_from_slice(b"BUSY\n")?;
         return Ok(());
     }
     make_call(table, job, call, woken, out)
 }
 
-/// Says why a call of a job is refused before it is made, unless the job waits.
+/// Adds why a call of a job is refused before it is made, or BUSY if the job waits.
 fn refuse_unless_busy<L: LockTable>(
     table: &L,
     job: u8,
@@ -69,14 +71,14 @@ fn refuse_unless_busy<L: LockTable>(
     ensures { OnOk result (out.new.items
         ≡ out.old.items ++ (unless_busy (L.requests table.now) job (call_effect L.REQS (L.requests table.now) job (Err refusal))).text) }
 {
-    if !table.waiting(job) {
+    if !table.is_waiting(job) {
         return push_code(out, refusal);
     }
     out.extend_from_slice(b"BUSY\n")?;
     Ok(())
 }
 
-/// Takes out all requests of a job, and adds the grants that this makes.
+/// Stores out all requests of a job, and adds the grants that this makes.
 #[tactic(auto, using(std::proofs::Common::append_assoc))]
 fn free<L: LockTable>(
     table: &mut L,
@@ -108,7 +110,7 @@ fn push_statuses<L: LockTable>(
     Ok(())
 }
 
-/// Adds what a job is told of the keys of some wants, or why it is told nothing.
+/// Adds the statuses of the keys of some wants for a job, or why there are none.
 fn push_status_text<L: LockTable>(
     out: &mut Vec<u8>,
     table: &L,
@@ -135,8 +137,7 @@ pub fn push_requests<L: LockTable>(out: &mut Vec<u8>, table: &L) -> Result<(), A
     Ok(())
 }
 
-/// Does what a line asks for, and adds what it writes. It answers an ending where the script ends
-/// there.
+/// Carries out a line's command, and adds its output. Returns an ending if the script ends there.
 #[inline(always)]
 fn perform<L: LockTable>(
     table: &mut L,
@@ -145,13 +146,13 @@ fn perform<L: LockTable>(
     woken: &mut Woken,
     out: &mut Vec<u8>,
 ) -> Result<Option<Ending>, AllocError>
-    requires { IsTrue (asks_right (asked_by_line command)) }
+    requires { IsTrue (is_well_formed (owned_command command)) }
     ensures requests { OnOk result (L.requests table.new
-        ≡ (effect_of L.REQS number (L.requests table.old) (asked_by_line command.entry)).requests) }
+        ≡ (effect_of L.REQS number (L.requests table.old) (owned_command command.entry)).requests) }
     ensures text { OnOk result (out.new.items
-        ≡ out.old.items ++ (effect_of L.REQS number (L.requests table.old) (asked_by_line command.entry)).text) }
+        ≡ out.old.items ++ (effect_of L.REQS number (L.requests table.old) (owned_command command.entry)).text) }
     ensures ending { IfOk result (λ ending. ending
-        ≡ (effect_of L.REQS number (L.requests table.old) (asked_by_line command.entry)).ending) }
+        ≡ (effect_of L.REQS number (L.requests table.old) (owned_command command.entry)).ending) }
 {
     let Some(command) = command else {
         push_fault(out, number)?;
@@ -248,7 +249,7 @@ fn serve_on<L: LockTable, R: ByteIn, W: ByteOut>(
 }
 
 /// Serves a script on a lock queue that is empty at first: reads it, and writes its transcript.
-/// What a command writes goes out before the next read.
+/// The output of a command is written before the next read.
 pub fn serve_queue<R: ByteIn, W: ByteOut>(
     alloc: Global,
     reader: &mut R,
@@ -257,7 +258,8 @@ pub fn serve_queue<R: ByteIn, W: ByteOut>(
     requires reader_sound { R.has_failed reader.old ≡ false }
     requires writer_sound { W.has_failed writer.old ≡ false }
     requires few { R.reads_left reader.old ≤ 2 ^ 63 }
-    ensures serves { Serves transcript (R.to_come reader.old) (R.to_come reader.new) (W.written writer.old) (W.written writer.new) (served_as result) }
+    ensures serves { Serves transcript (R.to_come reader.old) (R.to_come reader.new)
+        (W.written writer.old) (W.written writer.new) (served_as result) }
     ensures blames { IfErr (served_as result) (λ e. Blames e (R.has_failed reader.new) (W.has_failed writer.new)) }
 {
     serve_on::<ProgramTable, R, W>(alloc, reader, writer)

@@ -1,4 +1,4 @@
--- What the ports of the host make of what it answers (this project's profile).
+-- What a port does with the answers of its host (this project's profile).
 use Rattle.std.specs.Prelude.{◌≡◌, ℕ, zero, suc, ◌+◌, ◌<◌, ◌⊎◌, List, Result, Ok, Err, IsErr, MatchResult}
 use Rattle.script_io.specs.declared.host_fault.HostFault.{HostFault}
 use Rattle.script_io.specs.declared.host_fault.HostFault.TheVariants.{Interrupted}
@@ -14,11 +14,12 @@ abbrev pub ReadIsInterrupted : {H : Type 0} → (H → Result ℕ HostFault → 
 ReadIsInterrupted answers h h' = (piece : List ℕ) × answers h (Err Interrupted) piece h'
 
 -- a write of a piece that was interrupted
-abbrev pub WriteIsInterrupted : {H : Type 0} → (H → List ℕ → Result ℕ HostFault → H → Type 0) → List ℕ → H → H → Type 0
+abbrev pub WriteIsInterrupted : {H : Type 0}
+    → (H → List ℕ → Result ℕ HostFault → H → Type 0) → List ℕ → H → H → Type 0
 WriteIsInterrupted answers piece h h' = answers h piece (Err Interrupted) h'
 
--- A host was asked for bytes, and asked again where it was interrupted, each time with one try the fewer, and this is its last
--- answer. An interruption is the last only where no try is left.
+-- a port reads from a host, again after each interruption, each time with one try fewer; this is the host's last answer, which
+-- is an interruption only if no try is left
 pub record ReadsAgain {H : Type 0} (answers : H → Result ℕ HostFault → List ℕ → H → Type 0) (h h' : H) (tries tries' : ℕ)
     (answer : Result ℕ HostFault) (piece : List ℕ) : Type 0 where
   pub interruptions : ℕ
@@ -28,14 +29,15 @@ pub record ReadsAgain {H : Type 0} (answers : H → Result ℕ HostFault → Lis
   pub tried : tries ≡ tries' + (interruptions + 1)
   pub retried : answer ≡ Err Interrupted → tries' ≡ 0
 
--- a read of a port hands on what the host answered
-abbrev pub AsksForBytes : {H : Type 0} → (H → Result ℕ HostFault → List ℕ → H → Type 0) → H → H → ℕ → ℕ → Result ℕ Failed → List ℕ → Type 0
+-- a read of a port returns the host's last answer
+abbrev pub AsksForBytes : {H : Type 0}
+    → (H → Result ℕ HostFault → List ℕ → H → Type 0) → H → H → ℕ → ℕ → Result ℕ Failed → List ℕ → Type 0
 AsksForBytes answers h h' tries tries' result piece =
     (answer : Result ℕ HostFault) × ReadsAgain answers h h' tries tries' answer piece
     × MatchResult result (λ n. answer ≡ Ok n) (λ _. IsErr answer)
 
--- A host was given all of a piece, and again where it was interrupted, at most so many times, and this is its last answer. An
--- interruption is the last only where no try is left.
+-- a port hands a host the whole piece, again after each interruption, at most so many times; this is the host's last answer,
+-- which is an interruption only if no try is left
 pub record WritesAgain {H : Type 0} (answers : H → List ℕ → Result ℕ HostFault → H → Type 0) (h h' : H) (tries : ℕ)
     (answer : Result ℕ HostFault) (piece : List ℕ) : Type 0 where
   pub interruptions : ℕ
@@ -45,8 +47,9 @@ pub record WritesAgain {H : Type 0} (answers : H → List ℕ → Result ℕ Hos
   pub tried : interruptions < tries
   pub retried : answer ≡ Err Interrupted → interruptions + 1 ≡ tries
 
--- a write to a port hands on what the host answered, but that to take no byte is to fail
-abbrev pub AsksToTake : {H : Type 0} → (H → List ℕ → Result ℕ HostFault → H → Type 0) → H → H → ℕ → Result ℕ Failed → List ℕ → Type 0
+-- a write to a port returns the host's last answer, but a write of no byte is a failure
+abbrev pub AsksToTake : {H : Type 0}
+    → (H → List ℕ → Result ℕ HostFault → H → Type 0) → H → H → ℕ → Result ℕ Failed → List ℕ → Type 0
 AsksToTake answers h h' tries result piece =
     (answer : Result ℕ HostFault) × WritesAgain answers h h' tries answer piece
     × MatchResult result (λ n. answer ≡ Ok n) (λ _. (answer ≡ Ok 0) ⊎ IsErr answer)

@@ -1,23 +1,24 @@
 -- What hosts over lent bytes do at each call (this project's profile).
-use Rattle.std.specs.Prelude.{◌≡◌, ℕ, ◌-◌, ◌==◌, nat_lt, List, length, take, drop, ◌++◌, min, Result, Ok, Err, MatchResult, if◌then◌else◌}
+use Rattle.std.specs.Prelude.{◌≡◌, ℕ, ◌-◌, ◌==◌, nat_lt, List, length, take, drop}
+use Rattle.std.specs.Prelude.{◌++◌, min, Result, Ok, Err, MatchResult, if◌then◌else◌}
 use Rattle.script_io.specs.declared.host_fault.HostFault.{HostFault}
 use Rattle.script_io.specs.declared.host_fault.HostFault.TheVariants.{Interrupted, Other}
 use Rattle.script_io.specs.declared.lent_hosts.Plan.{Plan}
 use Rattle.script_io.specs.declared.lent_hosts.LentReader.{LentReader}
 use Rattle.script_io.specs.declared.lent_hosts.LentWriter.{LentWriter}
 
--- what the next call comes to: how many bytes it passes at most, or a fault
+-- how the next call ends: the most bytes that it passes, or a fault
 abbrev pub call_of : Plan → Result ℕ HostFault
 call_of p = if nat_lt 0 p.interruptions then Err Interrupted else (if p.calls_left == 0 then Err Other else Ok p.most)
 
--- what is planned behind it
+-- the plan for the calls behind it
 abbrev pub plan_after : Plan → Plan
 plan_after p =
     if nat_lt 0 p.interruptions
     then record p { interruptions = p.interruptions - 1 }
     else (if p.calls_left == 0 then p else record p { calls_left = p.calls_left - 1; interruptions = p.every })
 
--- a read gives the next bytes, as many as the piece has room for and the plan lets through, or none and a fault
+-- a read returns the next bytes, as many as the piece has room for and the plan lets pass, or none and a fault
 abbrev pub LentReads : LentReader → Result ℕ HostFault → List ℕ → LentReader → Type 0
 LentReads old answer piece new =
     (new.plan ≡ plan_after old.plan) × MatchResult (call_of old.plan)
@@ -25,7 +26,7 @@ LentReads old answer piece new =
     (answer ≡ Ok n) × (take n piece ≡ take n old.rest.now) × (new.rest.now ≡ drop n old.rest.now))
     (λ fault. (answer ≡ Err fault) × (new.rest.now ≡ old.rest.now))
 
--- a write takes the front of the piece, as much as there is room for and the plan lets through, or none and a fault
+-- a write takes the front of the piece, as much as there is room for and the plan lets pass, or none and a fault
 abbrev pub LentWrites : LentWriter → List ℕ → Result ℕ HostFault → LentWriter → Type 0
 LentWrites old piece answer new =
     (new.plan ≡ plan_after old.plan) × MatchResult (call_of old.plan)

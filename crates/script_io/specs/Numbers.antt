@@ -1,5 +1,6 @@
 -- Numbers and parts of a line (this project's profile).
-use Rattle.std.specs.Prelude.{◌≡◌, ◌==◌, ◌&&◌, ◌+◌, ◌-◌, ◌*◌, ℕ, Bool, List, [], ◌∷◌, length, Option, Some, None, if◌then◌else◌, nat_le, nat_lt}
+use Rattle.std.specs.Prelude.{◌≡◌, ◌==◌, ◌&&◌, ◌+◌, ◌-◌, ◌*◌, ℕ, Bool, List, []}
+use Rattle.std.specs.Prelude.{◌∷◌, length, Option, Some, None, if◌then◌else◌, nat_le, nat_lt}
 use Rattle.std.specs.Borrow.{Bor}
 use Rattle.std.specs.List.{list_all, slice_split}
 use Rattle.std.specs.Option.{option_map_or}
@@ -19,7 +20,7 @@ number base most text =
     if nat_lt 0 (length text) && (list_all (is_digit base) text && nat_le (value_onto base 0 text) most)
     then Some (value_onto base 0 text) else None
 
--- the parts of a text between the separators; there is one more of them than of these
+-- the parts of a text between the separators; there is one part more than separators
 unfoldable pub parts : ℕ → List ℕ → List (List ℕ)
 parts separator text = slice_split (λ b. b == separator) text
 
@@ -27,7 +28,7 @@ parts separator text = slice_split (λ b. b == separator) text
 abbrev pub texts_in : ℕ → Option (Bor (List ℕ)) → List (List ℕ)
 texts_in separator rest = option_map_or (λ text. parts separator text.now) rest []
 
--- what the first of some texts spells, where there is one
+-- what the first of some texts spells, if there is one
 abbrev pub front : (List ℕ → Option ℕ) → List (List ℕ) → Option ℕ
 front read [] = None
 front read (text ∷ more) = read text

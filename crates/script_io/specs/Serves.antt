@@ -14,16 +14,16 @@ abbrev pub Tells : {E : Type 0} → Result E ServeFailure → Transcript E → L
 Tells (Ok ending) t sent = (sent ≡ t.text) × (t.ending ≡ ending)
 Tells (Err failure) t sent = Begins sent t.text
 
--- Read and Write are told only where that port failed
+-- the failures Read and Write are answered only if that port failed
 abbrev pub Blames : ServeFailure → Bool → Bool → Type 0
 Blames Read read_failed write_failed = read_failed ≡ true
 Blames Write read_failed write_failed = write_failed ≡ true
 Blames Memory read_failed write_failed = Unit {0}
 
--- A call that took its input from i to i' and its output from o to o', where a script's transcript is given: what
--- it wrote belongs to the transcript of the bytes that it read, and at its end that is the transcript of the
--- whole input.
-pub record Serves {E : Type 0} (transcript : List ℕ → Transcript E) (i i' o o' : Option (List ℕ)) (answer : Result E ServeFailure) : Type 0 where
+-- A call that took its input from i to i' and its output from o to o', for a language with these transcripts: what it wrote
+-- belongs to the transcript of the bytes that it read, and at its end that is the transcript of the whole input.
+pub record Serves {E : Type 0}
+    (transcript : List ℕ → Transcript E) (i i' o o' : Option (List ℕ)) (answer : Result E ServeFailure) : Type 0 where
   pub read : List ℕ
   pub sent : List ℕ
   pub consumed : Consumes i i' read
@@ -31,9 +31,9 @@ pub record Serves {E : Type 0} (transcript : List ℕ → Transcript E) (i i' o 
   pub tells : Tells answer (transcript read) sent
   pub whole : is_ok answer ≡ true → IfSome i (λ all. transcript all ≡ transcript read)
 
--- ---- the same in the middle of a script, by what is still written where some bytes come and no more
+-- ---- the same in the middle of a script, by the rest of its transcript
 
--- it goes on: it took bytes, it wrote, and then what is still written follows
+-- it goes on: it took bytes, it wrote, and the rest of the transcript follows
 pub record Goes {E : Type 0} (i i' o o' : Option (List ℕ)) (rest rest' : List ℕ → Transcript E) : Type 0 where
   pub read : List ℕ
   pub sent : List ℕ
@@ -51,13 +51,13 @@ pub record Stops {E : Type 0} (i i' o o' : Option (List ℕ)) (rest : List ℕ �
 
 -- ---- the same without reading
 
--- it wrote, and then what is still written follows
+-- it wrote, and the rest of the transcript follows
 pub record Sends {E : Type 0} (o o' : Option (List ℕ)) (rest rest' : List ℕ → Transcript E) : Type 0 where
   pub sent : List ℕ
   pub appended : Appends o o' sent
   pub follows : (more : List ℕ) → rest more ≡ after sent (rest' more)
 
--- a failure cut short what is written in any case
+-- a failure cut short what would have been written
 pub record Cuts {E : Type 0} (o o' : Option (List ℕ)) (rest : List ℕ → Transcript E) : Type 0 where
   pub sent : List ℕ
   pub appended : Appends o o' sent

@@ -14,16 +14,16 @@ closed text ending = record { text = text; ending = ending }
 abbrev pub after : {E : Type 0} → List ℕ → Transcript E → Transcript E
 after text t = closed (text ++ t.text) t.ending
 
--- nothing more where there is an ending, and otherwise what is still to come
+-- nothing more if there is an ending, and otherwise this transcript
 abbrev pub unless_ended : {E : Type 0} → Option E → Transcript E → Transcript E
 unless_ended (Some ending) t = closed [] ending
 unless_ended None t = t
 
--- nothing is looked at after the end
+-- nothing counts after the end
 pub unless_ended-same : {E : Type 0} (o : Option E) (s t : Transcript E) → is_some o ≡ true → unless_ended o s ≡ unless_ended o t
 unless_ended-same (Some e) s t h = refl
 unless_ended-same None s t h = cc
 
--- where there is no end nothing need be shown of what is behind it
+-- a fact that is asked only behind an end
 pub never_ended-same : {E : Type 0} (s t : Transcript E) → false ≡ true → s ≡ t
 never_ended-same s t h = cc

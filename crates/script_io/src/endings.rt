@@ -33,13 +33,13 @@ pub enum Ending {
     Source(SourceFault),
 }
 
-/// How serving a script or a source ends, where not all of it is done.
+/// Why a script or a source was not served to its end without a fault.
 #[derive(Clone, Copy, PartialEq, Eq, Debug, Drop, Error)]
 pub enum ServeError {
-    /// The line of this number is not in the grammar, which the transcript says last.
+    /// The line of this number is not in the grammar; the transcript ends by saying so.
     #[error("script")]
     Script(u128),
-    /// A source is not assembled, which the transcript says last.
+    /// A source has a fault; the transcript ends by saying so.
     #[error("source")]
     Source(SourceFault),
     /// The reader failed.
@@ -53,7 +53,7 @@ pub enum ServeError {
     Memory,
 }
 
-/// The answer to a serving that ended so, or was cut short by this failure.
+/// The answer of a serving call whose session ended this way, or that this failure cut short.
 fn answer_of(served: Result<Ending, ServeFailure>) -> Result<(), ServeError>
     ensures { served_as result ≡ served }
 {
@@ -67,8 +67,8 @@ fn answer_of(served: Result<Ending, ServeFailure>) -> Result<(), ServeError>
     }
 }
 
-/// Serves a script or a source whose session is given: reads it, and writes its transcript. What a
-/// command writes goes out before the next read.
+/// Serves the script or the source of a session: reads it, and writes its transcript. The output of a command is written
+/// before the next read.
 pub fn serve_script<S: Session<Ending = Ending>, R: ByteIn, W: ByteOut>(
     alloc: Global,
     session: &mut S,

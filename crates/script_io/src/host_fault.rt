@@ -1,9 +1,9 @@
-//! What can fail of a call to the host.
+//! How a call to the host can fail.
 
-/// Why a call to the host came to nothing.
+/// Why a call to the host passed no bytes.
 #[derive(Clone, Copy, PartialEq, Eq, Debug)]
 pub enum HostFault {
-    /// It was interrupted, and is to be made again.
+    /// It was interrupted; the caller makes it again.
     Interrupted,
     /// Anything else.
     Other,

@@ -10,7 +10,7 @@ use crate::hosts::{ReadOnce, StdReader, StdWriter, WriteOnce};
 use crate::ports::{ByteIn, ByteOut, Failed};
 use std::io::{Read, Write};
 
-/// How often the reader is asked, and the writer at each write, at most.
+/// The most calls of a reader, and the most of a writer for each write.
 const MOST_TRIES: u64 = 1 << 63;
 
 /// Whether a call was interrupted, so that it is to be made again.
@@ -20,7 +20,7 @@ fn is_interrupted(answer: &Result<usize, HostFault>) -> bool
     matches!(answer, Err(HostFault::Interrupted))
 }
 
-/// Reads, and reads again where the host was interrupted, as long as tries are left.
+/// Reads, and reads again while the host is interrupted and tries are left.
 fn read_retrying<H: ReadOnce>(
     host: &mut H,
     tries: &mut u64,
@@ -40,7 +40,7 @@ fn read_retrying<H: ReadOnce>(
     }
 }
 
-/// Writes, and writes again where the host was interrupted, as long as tries are left.
+/// Writes, and writes again while the host is interrupted and tries are left.
 fn write_retrying<H: WriteOnce>(host: &mut H, most: u64, piece: &[u8]) -> Result<usize, HostFault>
     requires { 0 < most }
     ensures bound { WritesAtMost result piece.now }
@@ -57,19 +57,18 @@ fn write_retrying<H: WriteOnce>(host: &mut H, most: u64, piece: &[u8]) -> Result
     }
 }
 
-/// The bytes of a host. A read that was interrupted is made again; any read after the first 2^63
-/// fails.
+/// A reader over a host. A read that was interrupted is made again; any read after the first 2^63 fails.
 #[derive(Drop)]
 pub struct HostIn<H: Drop> {
     /// The host.
     pub host: H,
-    /// How often it may still be asked.
+    /// How many calls of it are left.
     pub reads_left: u64,
     failed: bool,
 }
 
 impl<R: Read + Drop> HostIn<StdReader<R>> {
-    /// The bytes that this reader gives.
+    /// The bytes of this reader.
     pub fn new(inner: R) -> Self
         ensures bytes { ⟦<HostIn<StdReader<R>> as ByteIn>⟧.to_come result ≡ R.remaining inner }
         ensures few { ⟦<HostIn<StdReader<R>> as ByteIn>⟧.reads_left result ≡ 2 ^ 63 }
@@ -80,7 +79,7 @@ impl<R: Read + Drop> HostIn<StdReader<R>> {
 }
 
 impl<H: ReadOnce + Drop> HostIn<H> {
-    /// The bytes that this host gives.
+    /// The bytes of this host.
     pub fn over(host: H) -> Self
         ensures bytes { ⟦<HostIn<H> as ByteIn>⟧.to_come result ≡ H.to_come host }
         ensures few { ⟦<HostIn<H> as ByteIn>⟧.reads_left result ≡ 2 ^ 63 }
@@ -124,8 +123,7 @@ impl<H: ReadOnce + Drop> ByteIn for HostIn<H> {
     }
 }
 
-/// The bytes given to a host. A write that was interrupted is made again; one that takes no byte
-/// fails.
+/// A writer over a host. A write that was interrupted is made again; a write that takes no byte is a failure.
 #[derive(Drop)]
 pub struct HostOut<H: Drop> {
     /// The host.
@@ -134,7 +132,7 @@ pub struct HostOut<H: Drop> {
 }
 
 impl<W: Write + Drop> HostOut<StdWriter<W>> {
-    /// Gives bytes to this writer.
+    /// A port that writes to this writer.
     pub fn new(inner: W) -> Self
         ensures bytes { ⟦<HostOut<StdWriter<W>> as ByteOut>⟧.written result ≡ W.contents inner }
         ensures sound { ⟦<HostOut<StdWriter<W>> as ByteOut>⟧.has_failed result ≡ false }
@@ -144,7 +142,7 @@ impl<W: Write + Drop> HostOut<StdWriter<W>> {
 }
 
 impl<H: WriteOnce + Drop> HostOut<H> {
-    /// Gives bytes to this host.
+    /// A port that writes to this host.
     pub fn over(host: H) -> Self
         ensures bytes { ⟦<HostOut<H> as ByteOut>⟧.written result ≡ H.written host }
         ensures sound { ⟦<HostOut<H> as ByteOut>⟧.has_failed result ≡ false }

@@ -1,4 +1,4 @@
-//! Where the ports of the host get their bytes from and give them to: one call at a time.
+//! Hosts: what ports read from and write to, one call at a time.
 ghost use Rattle.std.specs.Prelude.{◌≡◌, ◌↔◌, ℕ, List, Option, Result};
 ghost use Rattle.std.specs.Io.{ReadsAtMost, WritesAtMost};
 ghost use Rattle.std.specs.Io.KnownBytes.{ReadConsumes, WriteAppends};
@@ -9,30 +9,30 @@ use crate::host_fault::HostFault;
 use std::io;
 use std::io::{ErrorKind, Read, Write};
 
-/// A host that is asked for bytes.
+/// A host to read from.
 pub trait ReadOnce {
     /// The bytes to come, where they are known.
     ghost to_come: { Self → Option (List ℕ) };
 
-    /// What a call can be: the host before it, its answer, the piece and the host after it.
+    /// Which calls are possible: the host before it, its answer, the piece and the host after it.
     ghost answers: { Self → Result ℕ HostFaultView → List ℕ → Self → Type 0 };
 
-    /// One call: reads into a piece, and says how many bytes came.
+    /// One call: reads into a piece, and returns how many bytes it read.
     fn read_once(&mut self, piece: &mut [u8]) -> Result<usize, HostFault>
         ensures bound { ReadsAtMost result piece.new }
         ensures bytes { ReadConsumes (to_come self.old) (to_come self.new) result piece.new }
         ensures answers { answers self.old result piece.new self.new };
 }
 
-/// A host that is given bytes.
+/// A host to write to.
 pub trait WriteOnce {
     /// The bytes that were written, where they are known.
     ghost written: { Self → Option (List ℕ) };
 
-    /// What a call can be: the host before it, the piece, its answer and the host after it.
+    /// Which calls are possible: the host before it, the piece, its answer and the host after it.
     ghost answers: { Self → List ℕ → Result ℕ HostFaultView → Self → Type 0 };
 
-    /// One call: writes a beginning of a piece, and says how many bytes it took.
+    /// One call: writes a beginning of a piece, and returns how many bytes that is.
     fn write_once(&mut self, piece: &[u8]) -> Result<usize, HostFault>
         ensures bound { WritesAtMost result piece.now }
         ensures bytes { WriteAppends (written self.old) (written self.new) result piece.now }

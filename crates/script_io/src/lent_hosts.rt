@@ -5,7 +5,7 @@ use crate::host_fault::HostFault;
 use crate::hosts::{ReadOnce, WriteOnce};
 use crate::test_ports::put;
 
-/// What comes of the calls of a host.
+/// How each call of a host ends.
 #[derive(Clone, Copy, Debug)]
 pub struct Plan {
     /// How many bytes a call passes at most.
@@ -21,8 +21,8 @@ pub struct Plan {
 impl Plan {
     ghost use Rattle.script_io.specs.LentHosts.{call_of, plan_after};
 
-    /// Each call passes so many bytes at most, behind so many that are interrupted, and so many pass
-    /// before one fails.
+    /// Each call passes at most `most` bytes; `every` interrupted calls come before each that passes; after `calls` calls that
+    /// pass, one fails.
     pub fn new(most: usize, every: u64, calls: u64) -> Self
         ensures most { result.most ≡ most }
         ensures every { result.every ≡ every }
@@ -37,7 +37,7 @@ impl Plan {
         }
     }
 
-    /// What the next call comes to: how many bytes it passes at most, or a fault.
+    /// How the next call ends: the most bytes that it passes, or a fault.
     fn next(&mut self) -> Result<usize, HostFault>
         ensures answer { result ≡ call_of self.old }
         ensures after { self.new ≡ plan_after self.old }
@@ -60,7 +60,7 @@ impl Plan {
 pub struct LentReader<'a> {
     /// The bytes to come.
     pub rest: &'a [u8],
-    /// What the next calls come to.
+    /// How the next calls end.
     pub plan: Plan,
     ghost some: { 0 < plan.most },
 }
@@ -89,13 +89,13 @@ pub struct LentWriter<'a> {
     pub room: &'a mut [u8],
     /// How many bytes were written.
     pub len: usize,
-    /// What the next calls come to.
+    /// How the next calls end.
     pub plan: Plan,
     ghost within: { len ≤ length room.now },
 }
 
 impl<'a> LentWriter<'a> {
-    /// Room for so many bytes as the slice has.
+    /// Nothing is written yet; there is room for as many bytes as the slice has.
     pub fn new(room: &'a mut [u8], plan: Plan) -> Self
         ensures len { result.len ≡ 0 }
         ensures room { length result.room.now ≡ length room.old }

@@ -1,5 +1,6 @@
 //! Scripts of lines.
-ghost use Rattle.std.specs.Prelude.{◌≡◌, ◌==◌, ◌+◌, ◌-◌, ◌^◌, ◌<◌, ◌≤◌, ◌++◌, ℕ, List, [], ◌∷◌, Some, None, false, true, All};
+ghost use Rattle.std.specs.Prelude.{◌≡◌, ◌==◌, ◌+◌, ◌-◌, ◌^◌, ◌<◌, ◌≤◌};
+ghost use Rattle.std.specs.Prelude.{◌++◌, ℕ, List, [], ◌∷◌, Some, None, false, true, All};
 ghost use Rattle.std.specs.Prelude.{IsTrue, ◌↔◌, length, take, drop, is_some, OnOk, IfOk, IfSome, MatchOption};
 ghost use Rattle.std.specs.Str.Lines.{lines, strip_carriage_return};
 ghost use Rattle.script_io.specs.Lines.{is_no_newline};
@@ -21,12 +22,11 @@ pub trait LineService {
     /// The ways in which scripts of its language end.
     type Ending: Copy;
 
-    /// What is still written, and how it ends, where so many lines have come, and these lines come
-    /// and no more.
+    /// The rest of the transcript: what is still written, and how the script ends, if so many lines were taken and these lines
+    /// are all that follow.
     ghost follow_lines: { Self → ℕ → List (List ℕ) → Transcript Self.Ending };
 
-    /// Takes the line of this number, and adds what is written for it. It answers an ending where
-    /// the script ends there.
+    /// Takes the line of this number, and appends its output. Returns an ending if the script ends there.
     fn take_line(
         &mut self,
         number: u128,
@@ -38,20 +38,20 @@ pub trait LineService {
             after out.old.items (follow_lines self.old (number - 1) (line.now ∷ more))
             ≡ after out.new.items (unless_ended ending (follow_lines self.new number more))) };
 
-    /// The line of this number is too long, whatever it says: adds what is written for it, and says
-    /// how the script ends.
+    /// Refuses the line of this number, which is too long, whatever it says: appends its output, and returns how the script
+    /// ends.
     fn refuse_line(&mut self, number: u128, out: &mut Vec<u8>) -> Result<Self::Ending, AllocError>
         requires { 0 < number }
         ensures { IfOk result (λ ending. (line : List ℕ) (more : List (List ℕ)) → LINE_LENGTH < length line →
             after out.old.items (follow_lines self.old (number - 1) (line ∷ more)) ≡ closed out.new.items ending) };
 
-    /// No more lines come: adds what is written then, and says how the script ends.
+    /// Ends the input: appends the output, and returns how the script ends.
     fn end_lines(&mut self, number: u128, out: &mut Vec<u8>) -> Result<Self::Ending, AllocError>
         requires { number + 1 < 2 ^ 128 }
         ensures { IfOk result (λ ending. after out.old.items (follow_lines self.old number []) ≡ closed out.new.items ending) };
 }
 
-/// What has come of a line.
+/// The bytes of a line that is not whole yet.
 #[derive(Drop)]
 struct LineBuffer {
     bytes: ArrayVec<u8, LINE_ROOM>,
@@ -67,7 +67,7 @@ impl LineBuffer {
         }
     }
 
-    /// Adds bytes of the line, where there is room for them.
+    /// Appends bytes of the line if there is room for them; false if there is not.
     fn extend(&mut self, bytes: &[u8]) -> bool
         requires { All is_no_newline bytes.now }
         ensures room { IsTrue result ↔ (length self.old.bytes.items + length bytes.now ≤ 257) }
@@ -84,21 +84,22 @@ impl LineBuffer {
     }
 }
 
-/// A script of lines, of which some bytes have come.
+/// A script of lines, of which some bytes have been read.
 #[derive(Drop)]
 pub struct LineSession<S: LineService + Drop> {
     service: S,
-    /// How many lines have come.
+    /// How many whole lines have been read.
     number: u128,
-    /// What has come of the next one, where it is not whole.
+    /// The bytes of the next line so far.
     line: LineBuffer,
     ending: Option<S::Ending>,
 }
 
 impl<S: LineService + Drop> LineSession<S> {
-    /// A script of which nothing has come.
+    /// A script of which nothing has been read.
     pub fn new(service: S) -> Self
-        ensures fresh { (bytes : List ℕ) → ⟦<LineSession<S> as Session>⟧.follow result bytes ≡ S.follow_lines service 0 (lines bytes) }
+        ensures fresh { (bytes : List ℕ)
+            → ⟦<LineSession<S> as Session>⟧.follow result bytes ≡ S.follow_lines service 0 (lines bytes) }
         ensures count { ⟦<LineSession<S> as Session>⟧.count result ≡ 0 }
     {
         LineSession {
@@ -109,7 +110,7 @@ impl<S: LineService + Drop> LineSession<S> {
         }
     }
 
-    /// A whole line comes, of which nothing was kept.
+    /// Takes a whole line, no bytes of which were kept.
     fn take_whole(&mut self, line: &[u8], out: &mut Vec<u8>) -> Result<(), AllocError>
         requires room { self.old.number + 1 < 2 ^ 128 }
         requires goes_on { self.old.ending ≡ None }
@@ -125,7 +126,7 @@ impl<S: LineService + Drop> LineSession<S> {
         hand_over(&mut self.service, self.number, line, out, &mut self.ending)
     }
 
-    /// The line that was kept is whole.
+    /// Takes the kept line, which is whole.
     fn take_kept(&mut self, out: &mut Vec<u8>) -> Result<(), AllocError>
         requires room { self.old.number + 1 < 2 ^ 128 }
         requires goes_on { self.old.ending ≡ None }
@@ -142,13 +143,14 @@ impl<S: LineService + Drop> LineSession<S> {
         Ok(())
     }
 
-    /// The line is too long with the bytes that come, whatever follows.
+    /// Refuses the line, which is too long with the next bytes, whatever follows.
     fn refuse_line(&mut self, out: &mut Vec<u8>) -> Result<(), AllocError>
         requires room { self.old.number + 1 < 2 ^ 128 }
         requires goes_on { self.old.ending ≡ None }
         ensures number { self.new.number ≡ self.old.number + 1 }
         ensures ended { OnOk result (is_some self.new.ending ≡ true) }
-        ensures follows { OnOk result ((bytes more : List ℕ) → All is_no_newline bytes → 257 < length self.old.line.bytes.items + length bytes →
+        ensures follows { OnOk result ((bytes more : List ℕ) → All is_no_newline bytes
+            → 257 < length self.old.line.bytes.items + length bytes →
             after out.old.items (⟦<LineSession<S> as Session>⟧.follow self.old (bytes ++ more))
             ≡ after out.new.items (⟦<LineSession<S> as Session>⟧.follow self.new more)) }
     {
@@ -160,7 +162,7 @@ impl<S: LineService + Drop> LineSession<S> {
         Ok(())
     }
 
-    /// Bytes of a line come.
+    /// Keeps bytes of a line that is not whole, or refuses the line if they are too many.
     fn keep(&mut self, bytes: &[u8], out: &mut Vec<u8>) -> Result<(), AllocError>
         requires room { self.old.number + 1 < 2 ^ 128 }
         requires goes_on { self.old.ending ≡ None }
@@ -177,7 +179,7 @@ impl<S: LineService + Drop> LineSession<S> {
         self.refuse_line(out)
     }
 
-    /// The last bytes of a line come.
+    /// Takes the last bytes of a line.
     fn end_line(&mut self, bytes: &[u8], out: &mut Vec<u8>) -> Result<(), AllocError>
         requires room { self.old.number + 1 < 2 ^ 128 }
         requires goes_on { self.old.ending ≡ None }
@@ -248,8 +250,8 @@ impl<S: LineService + Drop> Session for LineSession<S> {
     ghost ends = { λ s a b h. unless_ended-same s.ending _ _ h };
 }
 
-/// A service takes the line of this number, and how the script ends is noted, where it ends there. What a
-/// service answers to a line is read here alone, so that it need not pass through memory.
+/// Hands a service the line of this number, and notes how the script ends if it ends there. The answer is read in this one
+/// function, so that it need not pass through memory.
 #[inline(never)]
 fn hand_over<S: LineService>(
     service: &mut S,
@@ -270,7 +272,7 @@ fn hand_over<S: LineService>(
     Ok(())
 }
 
-/// The place of the first LF.
+/// The position of the first LF.
 fn find_newline(bytes: &[u8]) -> Option<usize>
     ensures within { IfSome result (λ i. i < length bytes.now) }
     ensures parted { MatchOption result (All is_no_newline bytes.now)

@@ -2,7 +2,7 @@
 ghost use Rattle.std.specs.Prelude.{◌≡◌, ◌^◌, ◌<◌, ◌≤◌, [], ◌∷◌, IfSome};
 ghost use Rattle.script_io.specs.Numbers.{number};
 
-/// The number that one character spells: what `number` says of a text of one, in fewer steps.
+/// The number that one character spells: what `number` answers for a text of one, in fewer steps.
 #[inline(always)]
 #[tactic(auto, unfolding(crate::specs::Numbers::number))]
 pub fn digit_number(base: u64, most: u64, character: u8) -> Option<u64>

@@ -1,5 +1,6 @@
 //! The parts of a line or of an item.
-ghost use Rattle.std.specs.Prelude.{◌≡◌, ◌==◌, ◌<◌, ◌≤◌, ◌^◌, ◌↔◌, ℕ, List, [], ◌∷◌, None, IsTrue, IfSome, MatchOption};
+ghost use Rattle.std.specs.Prelude.{◌≡◌, ◌==◌, ◌<◌, ◌≤◌, ◌^◌, ◌↔◌, ℕ};
+ghost use Rattle.std.specs.Prelude.{List, [], ◌∷◌, None, IsTrue, IfSome, MatchOption};
 ghost use Rattle.script_io.specs.Numbers.{parts, texts_in, number, front, IsFront};
 
 use crate::numbers::digit_number;
@@ -29,7 +30,7 @@ impl<'a> Parts<'a> {
         }
     }
 
-    /// The parts of a text between blanks, where there is one.
+    /// The parts of a text between blanks; none if there is no text.
     #[inline(always)]
     pub fn between_blanks(rest: Option<&'a [u8]>) -> Self
         ensures { result ≡ texts_in 32 rest.entry }
@@ -40,7 +41,7 @@ impl<'a> Parts<'a> {
         }
     }
 
-    /// What is left of the text, where blanks part it.
+    /// The text that is left, if blanks separate its parts.
     #[inline(always)]
     pub fn left(&self) -> Option<&'a [u8]>
         ensures { IfSome result (λ text. self.now ≡ parts 32 text.now) }
@@ -52,7 +53,7 @@ impl<'a> Parts<'a> {
         }
     }
 
-    /// Takes the first of them.
+    /// Takes the first part.
     pub fn next(&mut self) -> Option<&'a [u8]>
         ensures { MatchOption result (self.old ≡ []) (λ part. self.old ≡ part.now ∷ self.new) }
     {
@@ -62,7 +63,7 @@ impl<'a> Parts<'a> {
         Some(part)
     }
 
-    /// Takes the first of them, where it spells a number in decimal that is at most `most`.
+    /// Takes the first part, and returns the number of at most `most` that it spells in decimal, if it does.
     #[inline(always)]
     pub fn next_number(&mut self, most: u64) -> Option<u64>
         requires { most < 2 ^ 56 }
@@ -96,8 +97,8 @@ pub fn split_part(text: &[u8], separator: u8) -> (&[u8], Option<&[u8]>)
     (text, None)
 }
 
-/// The number of one digit that the first part of a text spells, and what stands behind its
-/// separator. None where the part is longer or the last.
+/// The number of one digit that the first part of a text spells, and the text behind its separator. None if the part is
+/// longer or the last.
 #[inline(always)]
 fn split_digit(most: u64, text: &[u8], separator: u8) -> Option<(u64, Option<&[u8]>)>
     ensures value { IfSome result (λ r. IsFront (number 10 most) r.0 (parts separator text.now) (texts_in separator r.1)) }
@@ -116,8 +117,8 @@ fn split_digit(most: u64, text: &[u8], separator: u8) -> Option<(u64, Option<&[u
     Some((number, Some(&text[2..])))
 }
 
-/// The number in decimal, at most `most`, that the first part of a text spells, and what stands
-/// behind its separator. It is read in one pass.
+/// The number of at most `most` that the first part of a text spells in decimal, and the text behind its separator, read in
+/// one pass.
 #[inline(always)]
 fn split_number(most: u64, text: &[u8], separator: u8) -> Option<(u64, Option<&[u8]>)>
     requires { most < 2 ^ 56 }

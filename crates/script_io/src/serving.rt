@@ -1,5 +1,6 @@
 //! Scripts served from any reader to any writer.
-ghost use Rattle.std.specs.Prelude.{◌≡◌, ◌≢◌, ◌+◌, ◌*◌, ◌^◌, ◌<◌, ◌≤◌, ◌++◌, ◌⊎◌, ℕ, List, [], Ok, Err, true, false};
+ghost use Rattle.std.specs.Prelude.{◌≡◌, ◌≢◌, ◌+◌, ◌*◌, ◌^◌, ◌<◌, ◌≤◌};
+ghost use Rattle.std.specs.Prelude.{◌++◌, ◌⊎◌, ℕ, List, [], Ok, Err, true, false};
 ghost use Rattle.std.specs.Prelude.{length, take, drop, MatchResult, OnOk, OnErr, IfOk, IfErr};
 ghost use Rattle.std.specs.Io.KnownBytes.{Appends, IsAtEnd};
 ghost use Rattle.script_io.specs.Transcripts.{after};
@@ -13,10 +14,10 @@ use std::alloc::Global;
 /// How many bytes are read at once, at most.
 const PIECE: usize = 16384;
 
-/// How many bytes are kept back until they are written, but for what one step of the session adds.
+/// The most bytes of output that are kept before they are written, but for what one step of the session adds.
 const KEPT_BACK: usize = 65536;
 
-/// Sends what was kept back.
+/// Writes the output that was kept.
 fn flush<W: ByteOut>(writer: &mut W, out: &mut Vec<u8>) -> Result<(), ServeFailure>
     requires sound { W.has_failed writer.old ≡ false }
     ensures written { OnOk result (Appends (W.written writer.old) (W.written writer.new) out.old.items) }
@@ -33,8 +34,8 @@ fn flush<W: ByteOut>(writer: &mut W, out: &mut Vec<u8>) -> Result<(), ServeFailu
     }
 }
 
-/// Takes a beginning of the bytes, and writes what is kept back where that has grown large. It
-/// answers how many bytes it took.
+/// Feeds a beginning of the bytes to the session, and writes the kept output once it is large. Returns how many bytes the
+/// session took.
 fn serve_front<S: Session, W: ByteOut>(
     session: &mut S,
     bytes: &[u8],
@@ -67,7 +68,7 @@ fn serve_front<S: Session, W: ByteOut>(
     Ok(count)
 }
 
-/// Takes the bytes of a piece, and writes what they ask for.
+/// Feeds the bytes of a piece to the session, and writes its output.
 fn serve_piece<S: Session, W: ByteOut>(
     session: &mut S,
     piece: &[u8],
@@ -95,7 +96,7 @@ fn serve_piece<S: Session, W: ByteOut>(
     flush(writer, out)
 }
 
-/// Reads one piece, and writes what it asks for. It answers whether bytes came.
+/// Reads one piece, feeds it to the session, and writes the output. True if the piece had bytes, false at the end of input.
 fn serve_next<S: Session, R: ByteIn, W: ByteOut>(
     session: &mut S,
     reader: &mut R,
@@ -164,8 +165,8 @@ fn serve_pieces<S: Session, R: ByteIn, W: ByteOut>(
     }
 }
 
-/// Serves a script of any language: reads its bytes, writes its transcript, and answers how the
-/// script ends. What a command writes goes out before the next read.
+/// Serves a script of any language: reads its bytes, writes its transcript, and returns how the script ends. The output of a
+/// command is written before the next read.
 pub fn serve_session<S: Session, R: ByteIn, W: ByteOut>(
     alloc: Global,
     session: &mut S,
@@ -176,7 +177,8 @@ pub fn serve_session<S: Session, R: ByteIn, W: ByteOut>(
     requires writer_sound { W.has_failed writer.old ≡ false }
     requires few { R.reads_left reader.old ≤ 2 ^ 63 }
     requires fresh { S.count session.old ≡ 0 }
-    ensures serves { Serves (S.follow session.old) (R.to_come reader.old) (R.to_come reader.new) (W.written writer.old) (W.written writer.new) result }
+    ensures serves { Serves (S.follow session.old) (R.to_come reader.old) (R.to_come reader.new)
+        (W.written writer.old) (W.written writer.new) result }
     ensures blames { IfErr result (λ e. Blames e (R.has_failed reader.new) (W.has_failed writer.new)) }
 {
     let mut out = Vec::new(alloc);

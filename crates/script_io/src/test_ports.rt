@@ -1,5 +1,6 @@
 //! Ports over lent slices, which fail at a chosen call and pass few bytes at once.
-ghost use Rattle.std.specs.Prelude.{◌≡◌, ◌+◌, ◌-◌, ◌<◌, ◌≤◌, ◌↔◌, ◌⊎◌, [], length, take, ◌++◌, false, min, Some, IsErr, IsTrue, is_err, IfOk, OnOk};
+ghost use Rattle.std.specs.Prelude.{◌≡◌, ◌+◌, ◌-◌, ◌<◌, ◌≤◌, ◌↔◌, ◌⊎◌, [], length};
+ghost use Rattle.std.specs.Prelude.{take, ◌++◌, false, min, Some, IsErr, IsTrue, is_err, IfOk, OnOk};
 ghost use Rattle.script_io.specs.Ports.{Reads, Writes};
 
 use crate::ports::{ByteIn, ByteOut, Failed};
@@ -18,7 +19,7 @@ pub struct TestIn<'a> {
 }
 
 impl<'a> TestIn<'a> {
-    /// These bytes, at most so many at once, and a failure after so many calls.
+    /// These bytes, at most `most` in a call, and a failure after `calls` calls.
     pub fn new(bytes: &'a [u8], most: usize, calls: u64) -> Self
         requires { 0 < most }
         ensures bytes { ⟦<TestIn<'a> as ByteIn>⟧.to_come result ≡ Some bytes.now }
@@ -83,8 +84,7 @@ pub struct TestOut<'a> {
 }
 
 impl<'a> TestOut<'a> {
-    /// Room for so many bytes as the slice has, at most so many at once, and a failure after so many
-    /// calls.
+    /// Room for as many bytes as the slice has, at most `most` in a call, and a failure after `calls` calls.
     pub fn new(room: &'a mut [u8], most: usize, calls: u64) -> Self
         requires { 0 < most }
         ensures bytes { ⟦<TestOut<'a> as ByteOut>⟧.written result ≡ Some [] }
@@ -137,7 +137,7 @@ impl<'a> ByteOut for TestOut<'a> {
     }
 }
 
-/// Copies the bytes to a place.
+/// Copies the bytes to position `at`.
 pub fn put(room: &mut [u8], at: usize, bytes: &[u8])
     requires { at + length bytes.now ≤ length room.old }
     ensures { take (at + length bytes.now) room.new ≡ take at room.old ++ bytes.now }

@@ -5,20 +5,20 @@ ghost use Rattle.script_io.specs.Transcripts.{Transcript, after, closed, never_e
 use crate::sessions::Session;
 use std::alloc::{AllocError, Global};
 
-/// What a script's text does, once all of it has come.
+/// A language whose scripts are taken as one text.
 pub trait TextService {
     /// The ways in which scripts of its language end.
     type Ending: Copy;
 
-    /// What is written for a text, and how it ends.
+    /// The transcript of a text.
     ghost transcript: { Self → List ℕ → Transcript Self.Ending };
 
-    /// Takes the text, adds what is written for it, and says how it ends.
+    /// Takes the text, appends its output, and returns how the script ends.
     fn take_text(&mut self, text: &[u8], out: &mut Vec<u8>) -> Result<Self::Ending, AllocError>
         ensures { IfOk result (λ ending. after out.old.items (transcript self.old text.now) ≡ closed out.new.items ending) };
 }
 
-/// A script whose bytes are kept until all of them have come. Nothing is written before.
+/// A script whose bytes are kept until the end of the input; its output follows then.
 #[derive(Drop)]
 pub struct TextSession<S: Drop> {
     service: S,
@@ -26,7 +26,7 @@ pub struct TextSession<S: Drop> {
 }
 
 impl<S: TextService + Drop> TextSession<S> {
-    /// A script of which nothing has come.
+    /// A script of which nothing has been read.
     pub fn new(alloc: Global, service: S) -> Self
         ensures fresh { (bytes : List ℕ) → ⟦<TextSession<S> as Session>⟧.follow result bytes ≡ S.transcript service bytes }
         ensures count { ⟦<TextSession<S> as Session>⟧.count result ≡ 0 }

@@ -12,7 +12,7 @@ use Rattle.lock_laws.specs.Safe.{Safe}
 use Rattle.lock_laws.proofs.AlongCalls.{always_safe}
 use Rattle.lock_laws.proofs.EveryChange.{safety_is_kept, owners_are_kept, latest_is_kept, safe_jobs_make_no_circle}
 use Rattle.script_io.specs.Transcripts.{Transcript, after, unless_ended}
-use Rattle.queue_script.specs.Commands.{Asked, nothing, call, status, free, show, waits, quit, command_of}
+use Rattle.queue_script.specs.Commands.{OwnedCommand, nothing, call, status, free, show, waits, quit, command_of}
 use Rattle.queue_script.specs.QueueScripts.{Effect, effect_of, call_effect, transcript_of}
 use Rattle.script_io.specs.declared.endings.Ending.{Ending}
 use Rattle.script_laws.specs.Scripts.{effect_at, requests_after, ends_within, GivesUp, FollowsTranscript}
@@ -42,7 +42,7 @@ both-same : (busy : Bool) (requests : List Request) → cond busy requests reque
 both-same true requests = refl
 both-same false requests = refl
 
-asked-holds : (size n : ℕ) (requests : List Request) (asked : Option Asked) → Holds size requests → Holds size (effect_of size n requests asked).requests
+asked-holds : (size n : ℕ) (requests : List Request) (asked : Option OwnedCommand) → Holds size requests → Holds size (effect_of size n requests asked).requests
 asked-holds size n requests None h = h
 asked-holds size n requests (Some nothing) h = h
 asked-holds size n requests (Some (call job (Ok c))) h =
@@ -102,7 +102,7 @@ busy-keeps size requests caller job c key false before gone = (owners_are_kept s
 stays-owned : (requests : List Request) (job : ℕ) (key : Key) → owns requests job key ≡ true → owns requests job key ≡ false → ⊥
 stays-owned requests job key before gone = let e : true ≡ false = sym before ∙ gone in absurd (cc)
 
-asked-keeps : (size n : ℕ) (requests : List Request) (asked : Option Asked) (job : ℕ) (key : Key) → owns requests job key ≡ true
+asked-keeps : (size n : ℕ) (requests : List Request) (asked : Option OwnedCommand) (job : ℕ) (key : Key) → owns requests job key ≡ true
     → owns (effect_of size n requests asked).requests job key ≡ false → GivesUp job asked
 asked-keeps size n requests None job key before gone = stays-owned requests job key before gone
 asked-keeps size n requests (Some nothing) job key before gone = stays-owned requests job key before gone

@@ -1,12 +1,13 @@
 -- What holds of the requests after every line of every script on the lock queue (this project's profile).
-use Rattle.std.specs.Prelude.{◌≡◌, ◌+◌, ◌++◌, ℕ, Bool, true, false, List, [], ◌∷◌, length, Option, Some, None, Ok, Err, if◌then◌else◌, is_some}
+use Rattle.std.specs.Prelude.{◌≡◌, ◌+◌, ◌++◌, ℕ, Bool, true, false, List, [], ◌∷◌}
+use Rattle.std.specs.Prelude.{length, Option, Some, None, Ok, Err, if◌then◌else◌, is_some}
 use Rattle.lock_queue.specs.declared.key.Key.{Key}
 use Rattle.lock_queue.specs.declared.request.Request.{Request}
 use Rattle.lock_laws.specs.Circles.{NoPlainCircle}
 use Rattle.lock_laws.specs.Owning.{owns, is_dequeue}
 use Rattle.lock_laws.specs.Safe.{Safe}
 use Rattle.script_io.specs.Transcripts.{after}
-use Rattle.queue_script.specs.Commands.{Asked, nothing, call, status, free, show, waits, quit, command_of}
+use Rattle.queue_script.specs.Commands.{OwnedCommand, nothing, call, status, free, show, waits, quit, command_of}
 use Rattle.queue_script.specs.QueueScripts.{Effect, effect_of, transcript_of}
 
 -- the effect of line n on these requests, in a queue of some size
@@ -29,7 +30,7 @@ ends_within size requests n (line ∷ more) =
     then true
     else ends_within size (effect_at size (n + 1) requests line).requests (n + 1) more
 
--- where a script does not end with some lines, its transcript goes on with the requests after them
+-- if a script does not end with some lines, its transcript goes on with the requests after them
 abbrev pub FollowsTranscript : Type 0
 FollowsTranscript =
     (size : ℕ) (requests : List Request) (n : ℕ) (lines more : List (List ℕ)) → ends_within size requests n lines ≡ false
@@ -44,7 +45,7 @@ abbrev pub ScriptsMakeNoPlainCircle : Type 0
 ScriptsMakeNoPlainCircle = (size : ℕ) (lines : List (List ℕ)) → NoPlainCircle (requests_after size [] 0 lines)
 
 -- whether a line makes a job give up what it owns: FREE of that job, or a DEQ of that job that is in the grammar
-abbrev pub GivesUp : ℕ → Option Asked → Type 0
+abbrev pub GivesUp : ℕ → Option OwnedCommand → Type 0
 GivesUp job None = ⊥
 GivesUp job (Some nothing) = ⊥
 GivesUp job (Some (call caller (Ok c))) = (is_dequeue c ≡ true) × (caller ≡ job)

@@ -1,4 +1,4 @@
--- TAKE takes all that a line has put out (this project's profile).
+-- TAKE takes all output of a line (this project's profile).
 use Rattle.std.specs.Prelude.{◌≡◌, ◌<◌, ℕ, [], None}
 use Rattle.word36.specs.declared.sizes.TheConstants.{LINES, TAKEN_AT_ONCE}
 use Rattle.tty_lines.specs.Rings.{IsLines, output_of}
@@ -7,7 +7,7 @@ use Rattle.machine.specs.declared.event.Event.TheVariants as event
 use Rattle.op_script.specs.Events.{Taking, taken_by}
 use Rattle.op_script.specs.declared.events.TheConstants.{MOST_TAKES}
 
--- what was taken is all that the line had put out, none of it is left, and nothing was refused
+-- what was taken is all output of the line, none of it is left, and nothing was refused
 pub record TakesAll (s : S) (line : ℕ) (t : Taking) : Type 0 where
   pub text : t.text ≡ output_of s.world.lines line
   pub left : output_of t.machine.world.lines line ≡ []

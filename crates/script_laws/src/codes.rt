@@ -64,6 +64,6 @@ pub fn fault_codes_of_sources()
     ensures defined_twice { fault_code fault.DefinedTwice ≡ 3 }
     ensures does_not_fit { fault_code fault.DoesNotFit ≡ 4 }
     ensures not_yet_defined { fault_code fault.NotYetDefined ≡ 5 }
-    ensures place_too_high { fault_code fault.PlaceTooHigh ≡ 6 }
+    ensures address_too_high { fault_code fault.AddressTooHigh ≡ 6 }
     ensures no_end { fault_code fault.NoEnd ≡ 7 }
 {}

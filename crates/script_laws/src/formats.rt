@@ -1,7 +1,7 @@
 //! The numbers of scripts, of sources and of the program.
 ghost use Rattle.std.specs.Prelude.{◌≡◌, ◌^◌, ◌-◌, ◌<◌, ℕ, List, All, Some};
-ghost use Rattle.command_line.specs.declared.statuses.TheConstants.{DONE, FAILED, REFUSED, USAGE};
-ghost use Rattle.mac_layout.specs.declared.places.TheConstants.{FIRST, PLACES};
+ghost use Rattle.program_shell.specs.declared.statuses.TheConstants.{DONE, FAILED, REFUSED, USAGE};
+ghost use Rattle.mac_layout.specs.declared.addresses.TheConstants.{FIRST, MEMORY_SIZE};
 ghost use Rattle.mac_text.specs.declared.symbol.TheConstants.{NAME_CHARACTERS};
 ghost use Rattle.op_script.specs.Texts.{characters_of, printed};
 ghost use Rattle.op_script.specs.declared.commands.TheConstants.{MOST_ADDRESS, MOST_EVENTS};
@@ -26,13 +26,13 @@ pub fn printed_texts_are_read()
     ensures { (text : List ℕ) → All (λ c. c < 128) text → characters_of (printed text) ≡ Some text }
 {}
 
-/// TAKE writes all that a line has put out, and leaves none of it: so many events of 64 characters are enough.
+/// TAKE writes all output of a line, and leaves none of it: `MOST_TAKES` events of 64 characters are enough.
 pub fn takes_take_all()
     ensures { TakeTakesAll }
 {}
 
-/// The locks of a script: the greatest id, function, group and number of a pool, the greatest level, and
-/// a user code, of 11 octal digits and 33 bits at most. No quota is met in a script on the lock queue.
+/// The locks of a script: the greatest id, function, group and number of a pool, the greatest level, and a user code, of 11
+/// octal digits and 33 bits at most. No call of a script on the lock queue is over its quota.
 pub fn numbers_of_locks()
     ensures half { MOST_HALF ≡ 262143 }
     ensures level { MOST_LEVEL ≡ 511 }
@@ -41,16 +41,15 @@ pub fn numbers_of_locks()
     ensures quota { QUOTA ≡ 1025 }
 {}
 
-/// The assembler's sources: the characters of a name that count, the place at first, and the places that
-/// words can have.
+/// The assembler's sources: the characters of a name that count, the first address, and the number of addresses.
 pub fn numbers_of_sources()
     ensures name { NAME_CHARACTERS ≡ 6 }
     ensures first { FIRST ≡ 96 }
-    ensures places { PLACES ≡ 2 ^ 18 }
+    ensures memory { MEMORY_SIZE ≡ 2 ^ 18 }
 {}
 
-/// The program's exit statuses: all done; a script or a source refused; the words of the command line
-/// refused; the reader, the writer or memory failed.
+/// The program's exit statuses: all done; a script or a source refused; the arguments refused; the reader, the writer or
+/// memory failed.
 pub fn exit_statuses()
     ensures done { DONE ≡ 0 }
     ensures refused { REFUSED ≡ 1 }

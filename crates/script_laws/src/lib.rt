@@ -1,6 +1,5 @@
-//! What holds of every script: what the lock queue keeps along one, the numbers that the manual and the formats give,
-//! each said once as a number, and that printed texts are read back. Each function does nothing: its contract is the
-//! law.
+//! Laws of every script: the lock queue's promises after each line, each number of the manual and the formats stated once as
+//! a number, and that printed texts are read back. Each function does nothing: its contract is the law.
 #![tactic(auto)]
 
 mod codes;

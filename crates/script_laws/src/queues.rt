@@ -1,7 +1,7 @@
 //! What the lock queue keeps along every script.
 ghost use Rattle.script_laws.specs.Scripts.{FollowsTranscript, LinesKeepOwners, ScriptsAreSafe, ScriptsMakeNoPlainCircle};
 
-/// The requests that the laws below speak of are those that a script's transcript goes on with.
+/// The requests of the laws below are those with which a script's transcript goes on.
 pub fn requests_are_those_of_the_transcript()
     ensures { FollowsTranscript }
 {}

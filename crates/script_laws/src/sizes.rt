@@ -4,7 +4,7 @@ ghost use Rattle.word36.specs.declared.word.TheConstants.{MODULUS, SIGN};
 ghost use Rattle.word36.specs.declared.sizes.TheConstants as size;
 ghost use Rattle.ka_cpu.specs.declared.limits.TheConstants.{MOST_LINKS, MOST_EXECUTES};
 ghost use Rattle.job_sched.specs.declared.time_of_day.TheConstants.{TICKS_A_SECOND, TICKS_A_DAY};
-ghost use Rattle.uuo_calls.specs.declared.core_call.TheConstants.{HIGHEST_PLACE};
+ghost use Rattle.uuo_calls.specs.declared.core_call.TheConstants.{JBREL};
 ghost use Rattle.machine.specs.declared.sizes.TheConstants.{
   INTERRUPT_CHARACTER,
   LOGIN_QUOTA,
@@ -29,12 +29,12 @@ pub fn sizes_of_the_machine()
     ensures vector { VECTOR_WORDS ≡ 4 }
 {}
 
-/// Core, the words that all jobs share, and the place that holds the highest address of a job.
+/// Core, the words that all jobs share, and the address at which the highest address of a job stands.
 pub fn sizes_of_memory()
     ensures block { size.BLOCK_WORDS ≡ 1024 }
     ensures blocks { size.MOST_BLOCKS ≡ 256 }
     ensures data { size.DATA_WORDS ≡ 1024 }
-    ensures highest { HIGHEST_PLACE ≡ 36 }
+    ensures highest { JBREL ≡ 36 }
 {}
 
 /// The rings of a terminal line, and the character that stops its job.

@@ -19,7 +19,7 @@ returns-in-NoLock c = gathers-none _ _ _ _ _ _ _ _ c.items.invariant.gathers (no
 pub items-preserved : goal.items-preserved
 items-preserved c =
     let few : c.items.count < 16 = omega (arith, c.if-count-eq-LOCKS_A_CALL.false, c.items.invariant.room) in
-    let w = wanted _ _ _ _ _ _ _ c.in-Wanted.ensures in
+    let w = wanted _ _ _ _ _ _ _ c.in-Stored.ensures in
     let counted : c.items.count + 1 ≡ min 16 c.items.count + 1 = omega (arith, few) in record {
       gathers = gathers-want _ _ _ _ _ _ _ _ _ _ _ _ _ c.items.invariant.gathers w.first.1 w.first.2 counted w.is w.behind;
       room = omega (arith, few);

@@ -9,4 +9,4 @@ returns c =
     let line = c.args.line.now in
     let short : nat_le (length line) 256 ≡ true = grind (arith, nat_tests, c.if-line-gt-LINE_LENGTH.false) in
     let loud : is_silent line ≡ false = grind (arith, nat_tests, c.is_silent.ensures, c.if-is_silent.false, c.if-is_silent.ensures) in
-    c.read_words.ensures ∙ spelled_alone line short loud
+    c.read_line.ensures ∙ spelled_alone line short loud

@@ -8,11 +8,11 @@ returns-then-count-text c =
     takes-plain _ _ _ _ _ _ _ _ _
     (rw c.in-Some.ensures
     (rw c.between_blanks.ensures (rw c.spelled.ensures (plain-end _ _ (λ e. omega arith) c.if-count-text.true c.name_length-count.ensures.named))))
-    c.take_plain.ensures
+    c.store_plain.ensures
 
 pub returns-then-text-count-eq32 : goal.returns-then-text-count-eq32
 returns-then-text-count-eq32 c =
     takes-plain _ _ _ _ _ _ _ _ _
     (rw c.in-Some.ensures (rw c.between_blanks-then-text-count-eq32.ensures (rw c.spelled-then-text-count-eq32.ensures
     (plain-more _ _ (λ e. omega arith) (omega arith) c.if-text-count-eq32.true c.name_length-count.ensures.named))))
-    c.take_plain-then-text-count-eq32.ensures
+    c.store_plain-then-text-count-eq32.ensures

@@ -1,4 +1,4 @@
-use Rattle.queue_script.specs.WaitPairs.{pair_in}
+use Rattle.wait_graph.specs.Pairs.{pair_in}
 use Rattle.queue_script.proofs.PairLemmas.{no_circle}
 use Rattle.queue_script.proofs.wait_pairs.push_circle_job.Goals as goal
 

@@ -1,8 +1,9 @@
 use Rattle.std.proofs.Common.{◌≡◌, ◌++◌, ◌-◌}
 use Rattle.std.specs.List.{flat_map}
 use Rattle.lock_queue.specs.Waits.{jobs, numbers_from}
-use Rattle.queue_script.specs.WaitPairs.{pair_in, circle_job}
-use Rattle.queue_script.specs.declared.circles.TheConstants.{NUMBERS}
+use Rattle.wait_graph.specs.Pairs.{pair_in}
+use Rattle.queue_script.specs.WaitPairs.{circle_job}
+use Rattle.wait_graph.specs.declared.pairs.TheConstants.{NUMBERS}
 use Rattle.queue_script.proofs.wait_pairs.push_circle_jobs.Given as goal
 
 abbrev pub invariant-loop-job : goal.invariant-loop-job

@@ -1,8 +1,10 @@
 use Rattle.std.proofs.Common.{◌++◌, ◌∙◌, ap}
 use Rattle.std.specs.Prelude.{codes}
 use Rattle.lock_queue.specs.Jobs.{waits_for}
-use Rattle.queue_script.specs.WaitPairs.{pair_in, circle_jobs, or_none, pairs_text}
-use Rattle.queue_script.proofs.PairLemmas.{circle-same, four_texts, nothing, pairs-same, table-pairs}
+use Rattle.wait_graph.specs.Pairs.{pair_in}
+use Rattle.queue_script.specs.WaitPairs.{circle_jobs, or_none, pairs_text}
+use Rattle.queue_script.proofs.PairLemmas.{circle-same, four_texts, pairs-same}
+use Rattle.wait_graph.proofs.PairLemmas.{nothing, table-pairs}
 use Rattle.queue_script.proofs.wait_pairs.push_waits.Goals as goal
 
 pub fill_pairs-requires-clause-empty : goal.fill_pairs-requires-clause-empty

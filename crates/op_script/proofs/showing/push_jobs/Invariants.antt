@@ -2,9 +2,9 @@ use Rattle.std.proofs.Common.{◌≡◌, ◌++◌, ◌-◌}
 use Rattle.std.specs.List.{flat_map}
 use Rattle.machine.specs.Views.{job_view}
 use Rattle.lock_queue.specs.Waits.{jobs, numbers_from}
-use Rattle.queue_script.specs.declared.circles.TheConstants.{NUMBERS}
+use Rattle.wait_graph.specs.declared.pairs.TheConstants.{NUMBERS}
 use Rattle.op_script.specs.Printing.{job_line}
-use Rattle.op_script.proofs.looking.push_jobs.Given as goal
+use Rattle.op_script.proofs.showing.push_jobs.Given as goal
 
 abbrev pub invariant-loop-n : goal.invariant-loop-n
 invariant-loop-n g l =

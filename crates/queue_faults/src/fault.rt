@@ -23,13 +23,13 @@ pub enum Reason<'a> {
     NoOption(&'a [u8]),
     /// The line is too long.
     TooLong,
-    /// These bytes are not what the sentence says.
+    /// These bytes, and a sentence about them.
     Is(&'a [u8], &'static str),
-    /// There is no such command; the text says more.
+    /// There is no command of this name, and what a person may do about it.
     NoCommand(&'a [u8], &'static str),
 }
 
-/// The numbers that may stand in a place.
+/// The numbers that may stand in one position.
 #[derive(Clone, Copy)]
 pub struct Range {
     /// What the number is of.

@@ -21,8 +21,8 @@ use Rattle.lock_queue.specs.declared.terms.BlockUse.{BlockUse}
 use Rattle.lock_queue.specs.declared.terms.BlockUse.TheVariants.{Full, Named}
 use Rattle.lock_queue.specs.declared.terms.Terms.{Terms}
 use Rattle.lock_queue.specs.declared.want.Want.{Want}
-use Rattle.queue_script.specs.Asks.{asks_right}
-use Rattle.queue_script.specs.Commands.{Asked, show, waits, quit, free, not_zero, job_of, asked_call, asked_status, call_with, request_call, change_call}
+use Rattle.queue_script.specs.WellFormed.{is_well_formed}
+use Rattle.queue_script.specs.Commands.{OwnedCommand, show, waits, quit, free, not_zero, job_of, call_by, status_by, call_with, request_call, change_call}
 use Rattle.queue_script.specs.Commands.{release_call, unknown_call, enqueue_call, enqueue_of, release_all_call, release_id_call, dequeue_call, dequeue_of}
 use Rattle.queue_script.specs.Commands.{status_of_items, free_of, bare, named_command, command_of_items, command_of}
 use Rattle.script_io.specs.Lines.{is_allowed, is_silent}
@@ -203,16 +203,16 @@ dequeue-right function job items =
 
 -- ---- lines
 
-asked-right : (job : ℕ) (o : Option (Result LockCall Refusal)) → is_job job ≡ true → IsRight o → asks_right (asked_call job o) ≡ true
+asked-right : (job : ℕ) (o : Option (Result LockCall Refusal)) → is_job job ≡ true → IsRight o → is_well_formed (call_by job o) ≡ true
 asked-right job None is right = refl
 asked-right job (Some (Ok c)) is right = both (is_job job) (names_locks c && all_share_rightly c) is (right c refl)
 asked-right job (Some (Err r)) is right = refl
 
-then-right : (o : Option ℕ) (f : ℕ → Option Asked) → ((n : ℕ) → o ≡ Some n → asks_right (f n) ≡ true) → asks_right (option_and_then f o) ≡ true
+then-right : (o : Option ℕ) (f : ℕ → Option OwnedCommand) → ((n : ℕ) → o ≡ Some n → is_well_formed (f n) ≡ true) → is_well_formed (option_and_then f o) ≡ true
 then-right None f right = refl
 then-right (Some n) f right = right n refl
 
-enqueue_of-right : (items : List (List ℕ)) → asks_right (enqueue_of items) ≡ true
+enqueue_of-right : (items : List (List ℕ)) → is_well_formed (enqueue_of items) ≡ true
 enqueue_of-right [] = refl
 enqueue_of-right (job ∷ []) = refl
 enqueue_of-right (job ∷ function ∷ []) = refl
@@ -220,39 +220,39 @@ enqueue_of-right (job ∷ function ∷ id ∷ locks) =
     then-right (job_of job) _ (λ j is. then-right (half_of function) _ (λ f hf. then-right (half_of id) _ (λ i hi.
     asked-right j (enqueue_call f i j locks) (job_of-right job j is) (enqueue-right f i j locks))))
 
-dequeue_of-right : (items : List (List ℕ)) → asks_right (dequeue_of items) ≡ true
+dequeue_of-right : (items : List (List ℕ)) → is_well_formed (dequeue_of items) ≡ true
 dequeue_of-right [] = refl
 dequeue_of-right (job ∷ []) = refl
 dequeue_of-right (job ∷ function ∷ rest) =
     then-right (job_of job) _ (λ j is. then-right (half_of function) _ (λ f hf.
     asked-right j (dequeue_call f j rest) (job_of-right job j is) (dequeue-right f j rest)))
 
-status-right : (job : ℕ) (o : Option (Result (ArrayVec Want) Refusal)) → asks_right (asked_status job o) ≡ true
+status-right : (job : ℕ) (o : Option (Result (ArrayVec Want) Refusal)) → is_well_formed (status_by job o) ≡ true
 status-right job None = refl
 status-right job (Some wants) = refl
 
-status_of-right : (items : List (List ℕ)) → asks_right (status_of_items items) ≡ true
+status_of-right : (items : List (List ℕ)) → is_well_formed (status_of_items items) ≡ true
 status_of-right [] = refl
 status_of-right (job ∷ locks) = then-right (job_of job) _ (λ j is. status-right j (option_map (call_wants j Named) (locks_of locks)))
 
-free-right : (o : Option ℕ) → asks_right (option_map free o) ≡ true
+free-right : (o : Option ℕ) → is_well_formed (option_map free o) ≡ true
 free-right None = refl
 free-right (Some job) = refl
 
-free_of-right : (items : List (List ℕ)) → asks_right (free_of items) ≡ true
+free_of-right : (items : List (List ℕ)) → is_well_formed (free_of items) ≡ true
 free_of-right [] = refl
 free_of-right (job ∷ []) = free-right (job_of job)
 free_of-right (job ∷ item ∷ more) = refl
 
-bare-right : (a : Asked) (items : List (List ℕ)) → asks_right (Some a) ≡ true → asks_right (bare a items) ≡ true
+bare-right : (a : OwnedCommand) (items : List (List ℕ)) → is_well_formed (Some a) ≡ true → is_well_formed (bare a items) ≡ true
 bare-right a [] right = right
 bare-right a (item ∷ more) right = refl
 
-asks-if : (b : Bool) (x y : Option Asked) → asks_right x ≡ true → asks_right y ≡ true → asks_right (cond b x y) ≡ true
+asks-if : (b : Bool) (x y : Option OwnedCommand) → is_well_formed x ≡ true → is_well_formed y ≡ true → is_well_formed (cond b x y) ≡ true
 asks-if true x y p q = p
 asks-if false x y p q = q
 
-named-right : (name : List ℕ) (rest : List (List ℕ)) → asks_right (named_command name rest) ≡ true
+named-right : (name : List ℕ) (rest : List (List ℕ)) → is_well_formed (named_command name rest) ≡ true
 named-right name rest =
     asks-if (bytes_eq name (codes "ENQ")) _ _ (enqueue_of-right rest)
     (asks-if (bytes_eq name (codes "DEQ")) _ _ (dequeue_of-right rest)
@@ -262,12 +262,12 @@ named-right name rest =
     (asks-if (bytes_eq name (codes "WAITS")) _ _ (bare-right waits rest refl)
     (asks-if (bytes_eq name (codes "QUIT")) _ _ (bare-right quit rest refl) refl))))))
 
-items-right : (items : List (List ℕ)) → asks_right (command_of_items items) ≡ true
+items-right : (items : List (List ℕ)) → is_well_formed (command_of_items items) ≡ true
 items-right [] = refl
 items-right (name ∷ rest) = named-right name rest
 
 -- each call that a line asks for can be made
-pub line-right : (line : List ℕ) → asks_right (command_of line) ≡ true
+pub line-right : (line : List ℕ) → is_well_formed (command_of line) ≡ true
 unfolding command_of
 line-right line =
     asks-if (is_allowed line) _ _ (asks-if (is_silent line) _ _ refl (items-right (parts 32 line))) refl

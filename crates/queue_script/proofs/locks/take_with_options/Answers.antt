@@ -2,7 +2,7 @@ use Rattle.std.proofs.Common.{Some, sym, take, arith, ◌∙◌}
 use Rattle.script_io.proofs.NumberLemmas.{parts-nonempty}
 use Rattle.queue_script.proofs.ItemLemmas.{characters-name, characters-apart, with_options}
 use Rattle.queue_script.specs.declared.locks.LockName.TheVariants.{Spelled, Coded}
-use Rattle.queue_script.proofs.locks.take_longer.Goals as goal
+use Rattle.queue_script.proofs.locks.take_with_options.Goals as goal
 
 pub returns-in-Some : goal.returns-in-Some
 returns-in-Some c =
@@ -14,14 +14,14 @@ returns-in-Some c =
           (with_options c.args.text.now _ _ c.args.count _ rest c.if-text-count-eq47.true
           (characters-apart (take c.args.count c.args.text.now) c.requires.named) c.in-Some.ensures
           (characters-name c.args.text.now c.args.count (λ e. omega arith) (omega (arith, rest)) c.requires.named)))),
-      c.take_spelled.ensures,
+      c.store_spelled.ensures,
     )
 
 pub returns-in-Some-options_behind : goal.returns-in-Some-options_behind
 returns-in-Some-options_behind c = (
   Some (record { name = Coded _; options = c.in-Some-options_behind.options }),
   rw c.requires.text (rw c.between_blanks-in-Some-options_behind.ensures (c.in-Some-options_behind.ensures _ c.in-Some-front_code.ensures.name)),
-  c.take_named.ensures,
+  c.store_or_refuse.ensures,
 )
 
 pub take_next-requires-clause-some : goal.take_next-requires-clause-some

@@ -40,7 +40,7 @@ fn is_option(item: Item<'_>) -> bool {
     }
 }
 
-/// Looks at a lock.
+/// Checks a lock: its name and its options, each at most once.
 pub fn check_lock(item: Item<'_>) -> Result<(), Fault<'_>> {
     let mut parts = Items::of(item, b'/');
     let name = parts.next_or_end();
@@ -74,9 +74,9 @@ struct Seen {
 }
 
 impl Seen {
-    /// Notes an option, and says whether it is the first of its kind.
+    /// Notes an option; true if it is the first of its kind.
     fn is_new(&mut self, option: &[u8]) -> bool {
-        let place = match option.first() {
+        let kind = match option.first() {
             Some(b'S') => &mut self.shared,
             Some(b'G') => &mut self.group,
             Some(b'B') => &mut self.bypass,
@@ -84,8 +84,8 @@ impl Seen {
             Some(b'L') => &mut self.level,
             _ => &mut self.pool,
         };
-        let was = *place;
-        *place = true;
-        !was
+        let is_new = !*kind;
+        *kind = true;
+        is_new
     }
 }

@@ -1,4 +1,4 @@
-//! Commands that look at the machine.
+//! SHOW, EXAMINE and DATA: commands that show the machine.
 ghost use Rattle.std.specs.Prelude.{◌≡◌, ◌++◌, OnOk, slice_index};
 ghost use Rattle.queue_script.specs.QueueScripts.{show_text};
 ghost use Rattle.queue_script.specs.WaitPairs.{waits_text};
@@ -6,7 +6,7 @@ ghost use Rattle.machine.specs.Views.{job_view};
 ghost use Rattle.op_script.specs.Printing.{job_line, word_line};
 ghost use Rattle.op_script.specs.RunScripts.{jobs_text, examined_text};
 
-use crate::printing::{push_job, push_place, push_refused, push_word_line};
+use crate::printing::{push_address, push_job, push_refused, push_word_line};
 use core_store::CoreStore;
 use lock_queue::LockTable;
 use monitor::{RefusedEvent, System};
@@ -63,19 +63,19 @@ pub fn push_waiting<L: LockTable, C: CoreStore>(
     push_waits(out, machine.locks())
 }
 
-/// Adds the word at a place of a job.
+/// Adds the word at an address of a job.
 pub fn push_examined<L: LockTable, C: CoreStore>(
     out: &mut Vec<u8>,
     machine: &System<L, C>,
     job: u8,
-    place: u32,
+    address: u32,
 ) -> Result<(), AllocError>
-    ensures { OnOk result (out.new.items ≡ out.old.items ++ examined_text machine.now job place) }
+    ensures { OnOk result (out.new.items ≡ out.old.items ++ examined_text machine.now job address) }
 {
     if machine.job(job).is_none() {
         return push_refused(out, RefusedEvent::NoSuchJob);
     }
-    push_place(out, place, machine.peek(job, place))
+    push_address(out, address, machine.peek(job, address))
 }
 
 /// Adds a word that all jobs share.

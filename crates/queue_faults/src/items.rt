@@ -22,12 +22,12 @@ impl<'a> Item<'a> {
         Fault::at(self.column, reason)
     }
 
-    /// The fault that it is not what the sentence says.
+    /// The fault that a sentence tells of it.
     pub fn is(self, sentence: &'static str) -> Fault<'a> {
         Fault::at(self.column, Reason::Is(self.text, sentence))
     }
 
-    /// What stands behind its first bytes.
+    /// What stands behind its first `length` bytes.
     pub fn after(self, length: usize) -> Item<'a> {
         let text = self.text;
         let length = length.min(text.len());
@@ -37,8 +37,7 @@ impl<'a> Item<'a> {
         }
     }
 
-    /// Cuts it at the first byte of this kind: what stands before, and what stands behind where there
-    /// is one.
+    /// Cuts it at the first separator: what stands before it, and what stands behind it. Without one, all of it and None.
     pub fn cut(self, separator: u8) -> (Item<'a>, Option<Item<'a>>) {
         let text = self.text;
         for (i, byte) in text.iter().enumerate() {
@@ -61,7 +60,7 @@ impl<'a> Item<'a> {
 /// The items of a line, with separators between them.
 #[derive(Clone, Copy)]
 pub struct Items<'a> {
-    /// What is left, where not all was given.
+    /// What is left; None behind the last item.
     rest: Option<Item<'a>>,
     separator: u8,
     /// The column behind the line.
@@ -99,7 +98,7 @@ impl<'a> Items<'a> {
         self.next().unwrap_or(Item { text, column })
     }
 
-    /// Looks that nothing is left.
+    /// Checks that nothing is left.
     pub fn end(&mut self) -> Result<(), Fault<'a>> {
         match self.rest {
             None => Ok(()),
@@ -113,7 +112,7 @@ impl<'a> Items<'a> {
 
 const COMMENT: &str = "a comment stands on a line of its own";
 
-/// What is wrong with the form of a line, whatever it asks for.
+/// What is wrong with the form of a line, whatever its command.
 pub fn check_form(line: &[u8]) -> Result<(), Fault<'_>> {
     if let Some(column) = column_not_ascii(line) {
         return Err(Fault::at(column, Reason::Said(NOT_ASCII)));

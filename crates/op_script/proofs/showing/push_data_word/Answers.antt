@@ -1,6 +1,6 @@
 use Rattle.std.proofs.Common.{◌∙◌, ap, unwrap_or, slice_index}
 use Rattle.std.proofs.lemmas.Option.{unwrap_or-slice_get}
-use Rattle.op_script.proofs.looking.push_data_word.Goals as goal
+use Rattle.op_script.proofs.showing.push_data_word.Goals as goal
 
 pub returns : goal.returns
 returns g c =

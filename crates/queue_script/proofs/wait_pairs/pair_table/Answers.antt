@@ -1,5 +1,0 @@
-use Rattle.queue_script.proofs.PairLemmas.{nothing}
-use Rattle.queue_script.proofs.wait_pairs.pair_table.Goals as goal
-
-pub fill_pairs-requires-clause-empty : goal.fill_pairs-requires-clause-empty
-fill_pairs-requires-clause-empty g c = λ i. nothing i
