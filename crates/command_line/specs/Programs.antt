@@ -1,27 +1,27 @@
--- What the program does for the words of its command line, and the status that it ends with (this project's profile).
-use Rattle.std.specs.Prelude.{◌≡◌, ◌⊎◌, ◌==◌, ◌+◌, ℕ, Bool, false, List, ◌++◌, Option, None, Some, Result, Ok, Err, IfErr, if◌then◌else◌, codes, decimal}
+-- What the program does for the arguments of its command line, and the status that it ends with (this project's profile).
+use Rattle.std.specs.Prelude.{◌≡◌, ◌⊎◌, ◌==◌, ◌+◌, ℕ, Bool, false, List, ◌++◌, Option, None, Some, Result, Ok, Err, IfErr}
+use Rattle.std.specs.Prelude.{if◌then◌else◌, codes, decimal}
 use Rattle.std.specs.Io.KnownBytes.{Keeps}
 use Rattle.clap.specs.Words.{Text, subcommand_of, takes}
-use Rattle.script_io.specs.Ports.{WritesAll}
 use Rattle.script_io.specs.Serves.{Serves, Blames}
 use Rattle.script_io.specs.Transcripts.{Transcript}
 use Rattle.script_io.specs.declared.failures.ServeFailure.{ServeFailure}
 use Rattle.script_io.specs.declared.failures.ServeFailure.TheVariants as failed
-use Rattle.script_io.specs.declared.ports.Failed.{Failed}
 use Rattle.asm_script.specs.Listings.{listing}
 use Rattle.op_script.specs.RunScripts as run
 use Rattle.queue_script.specs.QueueScripts.{transcript}
 use Rattle.script_io.specs.declared.endings.Ending.{Ending}
 use Rattle.script_io.specs.declared.endings.Ending.TheVariants as ending
 use Rattle.script_io.specs.declared.endings.SourceFault.{SourceFault}
-use Rattle.command_line.specs.Words.{app, choice_of}
-use Rattle.command_line.specs.declared.asked.Choice.{Choice}
-use Rattle.command_line.specs.declared.asked.Choice.TheVariants.{Run, Queue, Asm}
-use Rattle.command_line.specs.declared.statuses.TheConstants.{DONE, REFUSED, USAGE, FAILED}
+use Rattle.program_shell.specs.Reports.{Hands}
+use Rattle.program_shell.specs.declared.statuses.TheConstants.{DONE, REFUSED, USAGE, FAILED}
+use Rattle.command_line.specs.Arguments.{app, choice_of}
+use Rattle.command_line.specs.declared.commands.Choice.{Choice}
+use Rattle.command_line.specs.declared.commands.Choice.TheVariants.{Run, Queue, Asm}
 
--- what the words ask for, where that is a command with its numbers
+-- what the arguments ask for, where that is a command with its numbers
 abbrev pub asked : List Text → Option Choice
-asked words = choice_of (subcommand_of app words)
+asked arguments = choice_of (subcommand_of app arguments)
 
 -- the transcript of a command's input
 abbrev pub language_of : Choice → List ℕ → Transcript Ending
@@ -42,14 +42,10 @@ failure_line failed.Read = codes "lockmon: read\n"
 failure_line failed.Write = codes "lockmon: write\n"
 failure_line failed.Memory = codes "lockmon: memory\n"
 
--- standard error, from e to e', was handed all of a text, and took it, or a beginning of it and failed
-abbrev pub Hands : Option (List ℕ) → Option (List ℕ) → Bool → List ℕ → Type 0
-Hands e e' errors_failed text = (answer : Result (Unit {0}) Failed) × WritesAll e e' errors_failed answer text
-
--- of a script or a source that came to its end nothing is told there; of a failure its line
-abbrev pub TellsAnswer : Result Ending ServeFailure → Option (List ℕ) → Option (List ℕ) → Bool → Type 0
-TellsAnswer (Ok ending) e e' errors_failed = e' ≡ e
-TellsAnswer (Err failure) e e' errors_failed = Hands e e' errors_failed (failure_line failure)
+-- where a script or a source came to its end nothing is reported there; of a failure its line is
+abbrev pub ReportsAnswer : Result Ending ServeFailure → Option (List ℕ) → Option (List ℕ) → Bool → Type 0
+ReportsAnswer (Ok ending) e e' errors_failed = e' ≡ e
+ReportsAnswer (Err failure) e e' errors_failed = Hands e e' errors_failed (failure_line failure)
 
 -- ---- the line on what is wrong, which may go to another port on standard error, from t to t'
 
@@ -67,60 +63,62 @@ place_of_source fault =
 abbrev pub IsLineOn : List ℕ → List ℕ → Type 0
 IsLineOn place text = (reason : List ℕ) × (text ≡ place ++ codes ": " ++ reason ++ codes "\n")
 
--- nothing was told, or a line on a place
-abbrev pub TellsOf : List ℕ → Option (List ℕ) → Option (List ℕ) → Bool → Type 0
-TellsOf place t t' telling_failed = (t' ≡ t) ⊎ ((text : List ℕ) × IsLineOn place text × Hands t t' telling_failed text)
+-- nothing was reported, or a line on a place
+abbrev pub ReportsOf : List ℕ → Option (List ℕ) → Option (List ℕ) → Bool → Type 0
+ReportsOf place t t' reports_failed = (t' ≡ t) ⊎ ((text : List ℕ) × IsLineOn place text × Hands t t' reports_failed text)
 
--- of a script or a source that was refused the line is told at which its transcript ends, and otherwise nothing
-abbrev pub TellsFault : Result Ending ServeFailure → Option (List ℕ) → Option (List ℕ) → Bool → Type 0
-TellsFault (Ok ending.Done) t t' telling_failed = t' ≡ t
-TellsFault (Ok (ending.Script number)) t t' telling_failed = TellsOf (place_of_line number) t t' telling_failed
-TellsFault (Ok (ending.Source fault)) t t' telling_failed = TellsOf (place_of_source fault) t t' telling_failed
-TellsFault (Err failure) t t' telling_failed = t' ≡ t
+-- where a script or a source was refused, the line at which its transcript ends is reported; otherwise nothing
+abbrev pub ReportsFault : Result Ending ServeFailure → Option (List ℕ) → Option (List ℕ) → Bool → Type 0
+ReportsFault (Ok ending.Done) t t' reports_failed = t' ≡ t
+ReportsFault (Ok (ending.Script number)) t t' reports_failed = ReportsOf (place_of_line number) t t' reports_failed
+ReportsFault (Ok (ending.Source fault)) t t' reports_failed = ReportsOf (place_of_source fault) t t' reports_failed
+ReportsFault (Err failure) t t' reports_failed = t' ≡ t
 
 -- ---- the whole program
 
--- the transcript of the command that the words ask for was served, which took its input from i to i' and its output from
--- o to o', and the status and standard error, from e to e', tell how that ended
-pub record ServesAsked (words : List Text) (i i' o o' e e' : Option (List ℕ)) (read_failed write_failed errors_failed : Bool) (status : ℕ) : Type 0 where
+-- the transcript of the command that the arguments ask for was served, which took its input from i to i' and its output from
+-- o to o', and the status and standard error, from e to e', show how that ended
+pub record ServesAsked (arguments : List Text) (i i' o o' e e' : Option (List ℕ))
+    (read_failed write_failed errors_failed : Bool) (status : ℕ) : Type 0 where
   pub command : Choice
-  pub asks : asked words ≡ Some command
+  pub asks : asked arguments ≡ Some command
   pub answer : Result Ending ServeFailure
   pub serves : Serves (language_of command) i i' o o' answer
   pub blames : IfErr answer (λ failure. Blames failure read_failed write_failed)
-  pub told : status ≡ status_of answer
-  pub line : TellsAnswer answer e e' errors_failed
+  pub ended : status ≡ status_of answer
+  pub line : ReportsAnswer answer e e' errors_failed
 
--- the words are not in the form that the command line takes, or ask for no command that is there
+-- the arguments are not in the form that the command line takes, or ask for no command that is there
 abbrev pub IsWrong : List Text → Type 0
-IsWrong words = (takes app words ≡ false) ⊎ (asked words ≡ None)
+IsWrong arguments = (takes app arguments ≡ false) ⊎ (asked arguments ≡ None)
 
--- the words were refused for want of the right ones, which is status 2, or of memory, which is status 3 and has its line on
+-- the arguments were refused for want of the right ones, which is status 2, or of memory, which is status 3 and has its line on
 -- standard error
-abbrev pub IsToldWords : List Text → Option (List ℕ) → Option (List ℕ) → Bool → ℕ → Type 0
-IsToldWords words e e' errors_failed status =
-    ((status ≡ USAGE) × IsWrong words) ⊎ ((status ≡ FAILED) × Hands e e' errors_failed (failure_line failed.Memory))
+abbrev pub ReportsArguments : List Text → Option (List ℕ) → Option (List ℕ) → Bool → ℕ → Type 0
+ReportsArguments arguments e e' errors_failed status =
+    ((status ≡ USAGE) × IsWrong arguments) ⊎ ((status ≡ FAILED) × Hands e e' errors_failed (failure_line failed.Memory))
 
--- nothing was read or written, since the words were refused
-pub record Refuses (words : List Text) (i i' o o' e e' : Option (List ℕ)) (errors_failed : Bool) (status : ℕ) : Type 0 where
+-- nothing was read or written, since the arguments were refused
+pub record Refuses (arguments : List Text) (i i' o o' e e' : Option (List ℕ)) (errors_failed : Bool) (status : ℕ) : Type 0 where
   pub unread : Keeps i i'
   pub unwritten : Keeps o o'
-  pub why : IsToldWords words e e' errors_failed status
+  pub why : ReportsArguments arguments e e' errors_failed status
 
--- the program served what the words ask for, or refused them
+-- the program served what the arguments ask for, or refused them
 abbrev pub Runs : List Text → Option (List ℕ) → Option (List ℕ) → Option (List ℕ) →
     Option (List ℕ) → Option (List ℕ) → Option (List ℕ) → Bool → Bool → Bool → ℕ → Type 0
-Runs words i i' o o' e e' read_failed write_failed errors_failed status =
-    ServesAsked words i i' o o' e e' read_failed write_failed errors_failed status ⊎ Refuses words i i' o o' e e' errors_failed status
+Runs arguments i i' o o' e e' read_failed write_failed errors_failed status =
+    ServesAsked arguments i i' o o' e e' read_failed write_failed errors_failed status
+    ⊎ Refuses arguments i i' o o' e e' errors_failed status
 
--- the same, where a line was told of what was refused
-pub record ServesTold (words : List Text) (i i' o o' e e' t t' : Option (List ℕ))
-    (read_failed write_failed errors_failed telling_failed : Bool) (status : ℕ) : Type 0 where
-  pub served : ServesAsked words i i' o o' e e' read_failed write_failed errors_failed status
-  pub fault : TellsFault served.answer t t' telling_failed
+-- the same, where what was refused is reported by a line
+pub record ServesReporting (arguments : List Text) (i i' o o' e e' t t' : Option (List ℕ))
+    (read_failed write_failed errors_failed reports_failed : Bool) (status : ℕ) : Type 0 where
+  pub served : ServesAsked arguments i i' o o' e e' read_failed write_failed errors_failed status
+  pub fault : ReportsFault served.answer t t' reports_failed
 
-abbrev pub RunsTold : List Text → Option (List ℕ) → Option (List ℕ) → Option (List ℕ) → Option (List ℕ) →
+abbrev pub RunsReporting : List Text → Option (List ℕ) → Option (List ℕ) → Option (List ℕ) → Option (List ℕ) →
     Option (List ℕ) → Option (List ℕ) → Option (List ℕ) → Option (List ℕ) → Bool → Bool → Bool → Bool → ℕ → Type 0
-RunsTold words i i' o o' e e' t t' read_failed write_failed errors_failed telling_failed status =
-    ServesTold words i i' o o' e e' t t' read_failed write_failed errors_failed telling_failed status
-    ⊎ (Refuses words i i' o o' e e' errors_failed status × (t' ≡ t))
+RunsReporting arguments i i' o o' e e' t t' read_failed write_failed errors_failed reports_failed status =
+    ServesReporting arguments i i' o o' e e' t t' read_failed write_failed errors_failed reports_failed status
+    ⊎ (Refuses arguments i i' o o' e e' errors_failed status × (t' ≡ t))

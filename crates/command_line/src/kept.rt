@@ -1,4 +1,4 @@
-//! A reader that keeps what a refused line is found in.
+//! A reader that keeps the lines in which a refused one is found.
 ghost use Rattle.std.specs.Prelude.{◌≡◌, ◌<◌, ◌++◌, [], false, length, take, IfOk, OnErr};
 ghost use Rattle.script_io.specs.Ports.{Reads};
 ghost use Rattle.command_line.specs.Keeping.{IsEndOf};
@@ -7,7 +7,7 @@ use crate::lines::{Language, Lines};
 use script_io::{ByteIn, Failed};
 use std::alloc::Global;
 
-/// A reader that keeps the lines that it gave and that may be at fault.
+/// A reader that keeps the lines that it gave and that may still be at fault.
 #[derive(Drop)]
 pub struct KeptIn<R: Drop> {
     inner: R,

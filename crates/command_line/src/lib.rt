@@ -1,20 +1,19 @@
-//! The whole program over any ports: its command line, what it serves, and what it says of a line that
-//! is refused.
+//! The whole program `lockmon` over any ports: its command line, what it serves, and what it reports of a line that is
+//! refused.
 #![tactic(auto)]
 
-mod asked;
+mod arguments;
+mod commands;
+mod fault_reports;
 mod kept;
 mod lines;
 mod serving;
-mod statuses;
-mod telling;
 mod texts;
-mod words;
 
-pub use asked::{Choice, Refusal};
+pub use arguments::choice;
+pub use commands::Choice;
+pub use fault_reports::language_of;
 pub use kept::KeptIn;
 pub use lines::{Language, Lines};
-pub use serving::{program, program_told, unread_words};
-pub use statuses::{DONE, FAILED, REFUSED, USAGE};
-pub use telling::language_of;
-pub use words::choice;
+pub use program_shell::{DONE, FAILED, REFUSED, Refusal, USAGE};
+pub use serving::{program, program_reporting, unread_arguments};

@@ -3,22 +3,23 @@ ghost use Rattle.std.specs.Prelude.{◌≡◌, ◌≤◌, ◌++◌, [], drop, le
 ghost use Rattle.command_line.specs.Keeping.{IsEndOf};
 
 use memchr::{memchr, memrchr};
+use program_shell::without_return;
 use std::alloc::{AllocError, Global};
 use std::marker::Model;
 
-/// So many bytes are kept before finished lines are dropped.
+/// How many bytes are kept before finished lines are dropped.
 const KEPT: usize = 65536;
 
-/// Room for so many is taken at first: for those that are kept and the next that are read, so that it need not
-/// grow while a script runs.
+/// The room that is taken at first: for the bytes that are kept and the next that are read, so that it need not grow
+/// while a script runs.
 const ROOM: usize = KEPT + KEPT / 2;
 
-/// So many bytes are copied at once: few enough that the C library takes vector instructions. What is longer it
-/// copies by one string instruction, which counts as one for each byte where instructions are counted.
+/// How many bytes are copied at once. For so few the C library takes vector instructions; more it copies by one
+/// string instruction, which counts as an instruction for each byte where instructions are counted.
 const COPIED: usize = 1024;
 
-/// So many bytes are looked at together for line feeds: few enough that their number fits a byte, so
-/// that many are counted in one step.
+/// How many bytes are searched together for line feeds: so few that the number of line feeds fits a byte, and many
+/// are counted in one step.
 const COUNTED: usize = 128;
 
 /// What a script or a source is written in.
@@ -32,8 +33,8 @@ pub enum Language {
     Asm,
 }
 
-/// The last lines of an input. In a script those that a fault can no longer be in are dropped from
-/// time to time; a source is kept whole. Where there is no memory nothing is kept any more.
+/// The last lines of an input. In a script, lines that can no longer be at fault are dropped from time to time; a
+/// source is kept whole. Once there is no memory, nothing is kept any more.
 #[derive(Drop)]
 pub struct Lines {
     language: Language,
@@ -54,7 +55,7 @@ impl Model for Lines {
 }
 
 impl Lines {
-    /// No line. Where there is no memory for them at first, it is asked for again when lines come.
+    /// No lines yet. Where there is no memory for their room now, it is asked for again when lines come.
     pub fn new(alloc: Global, language: Language) -> Self
         ensures { result ≡ [] }
     {
@@ -136,9 +137,9 @@ fn drop_front(bytes: &mut Vec<u8>, count: usize)
     bytes.truncate(left);
 }
 
-/// A place between two lines.
-#[derive(Clone, Copy, Debug, Default)]
-struct Place {
+/// A position between two lines.
+#[derive(Clone, Copy, Default)]
+struct Position {
     /// How many bytes stand before it.
     length: usize,
     /// How many lines do.
@@ -149,13 +150,6 @@ struct Place {
 fn split_line(bytes: &[u8]) -> Option<(&[u8], &[u8])> {
     let end = memchr(b'\n', bytes)?;
     Some((without_return(&bytes[..end]), &bytes[end + 1..]))
-}
-
-fn without_return(line: &[u8]) -> &[u8] {
-    match line {
-        [front @ .., b'\r'] => front,
-        _ => line,
-    }
 }
 
 /// The line of this number, counted from 1; the last may have no line end.
@@ -178,18 +172,18 @@ fn line_at(bytes: &[u8], number: u128) -> Option<&[u8]> {
     None
 }
 
-/// What stands behind a place.
-fn behind(bytes: &[u8], place: Place) -> &[u8] {
-    &bytes[place.length.min(bytes.len())..]
+/// The bytes behind a position.
+fn behind(bytes: &[u8], position: Position) -> &[u8] {
+    &bytes[position.length.min(bytes.len())..]
 }
 
-/// The place behind the next line, and the line.
-fn next_line(bytes: &[u8], place: Place) -> Option<(&[u8], Place)> {
-    let rest = behind(bytes, place);
+/// The next line behind a position, and the position behind that line.
+fn next_line(bytes: &[u8], position: Position) -> Option<(&[u8], Position)> {
+    let rest = behind(bytes, position);
     let (line, more) = split_line(rest)?;
-    let next = Place {
+    let next = Position {
         length: bytes.len().saturating_sub(more.len()),
-        lines: place.lines.saturating_add(1),
+        lines: position.lines.saturating_add(1),
     };
     Some((line, next))
 }
@@ -199,7 +193,7 @@ fn is_assemble(line: &[u8]) -> bool {
     line.starts_with(b"ASSEMBLE ".as_slice())
 }
 
-/// How many of the bytes are line feeds.
+/// The number of line feeds in these bytes.
 fn line_feeds(bytes: &[u8]) -> u64 {
     let mut count: u64 = 0;
     for part in bytes.chunks(COUNTED) {
@@ -212,34 +206,34 @@ fn line_feeds(bytes: &[u8]) -> u64 {
     count
 }
 
-/// The place behind the last whole line.
-fn behind_whole_lines(bytes: &[u8]) -> Place {
+/// The position behind the last whole line.
+fn behind_whole_lines(bytes: &[u8]) -> Position {
     let Some(end) = memrchr(b'\n', bytes) else {
-        return Place::default();
+        return Position::default();
     };
     let whole = &bytes[..=end];
-    Place {
+    Position {
         length: whole.len(),
         lines: line_feeds(whole),
     }
 }
 
-/// The place before which no fault can be: the last that stands behind a whole line and in no source.
-fn finished(language: Language, bytes: &[u8]) -> Place {
+/// The position before which no fault can be any more: the last that is behind a whole line and in no source.
+fn finished(language: Language, bytes: &[u8]) -> Position {
     match language {
-        Language::Asm => Place::default(),
+        Language::Asm => Position::default(),
         Language::Queue => behind_whole_lines(bytes),
         Language::Run => behind_sources(bytes),
     }
 }
 
-/// The last place that stands behind a whole line and in no source.
-fn behind_sources(bytes: &[u8]) -> Place {
-    let mut done = Place::default();
-    let mut place = done;
+/// The last position that is behind a whole line and in no source.
+fn behind_sources(bytes: &[u8]) -> Position {
+    let mut done = Position::default();
+    let mut position = done;
     let mut in_source = false;
     for _ in 0..=bytes.len() {
-        let Some((line, next)) = next_line(bytes, place) else {
+        let Some((line, next)) = next_line(bytes, position) else {
             return done;
         };
         if !in_source && is_assemble(line) {
@@ -247,9 +241,9 @@ fn behind_sources(bytes: &[u8]) -> Place {
         } else if in_source && line == b"ENDASM".as_slice() {
             in_source = false;
         }
-        place = next;
+        position = next;
         if !in_source {
-            done = place;
+            done = position;
         }
     }
     done

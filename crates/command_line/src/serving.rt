@@ -5,29 +5,30 @@ ghost use Rattle.machine.specs.Setups.{IsSetup};
 ghost use Rattle.script_io.specs.Endings.{served_as};
 ghost use Rattle.script_io.specs.Serves.{Serves, Blames};
 ghost use Rattle.script_io.specs.declared.failures.ServeFailure.TheVariants as failed;
-ghost use Rattle.command_line.specs.Programs.{Hands, IsToldWords, Runs, RunsTold, TellsAnswer, failure_line, language_of, status_of};
-ghost use Rattle.command_line.specs.Words.{IsDue, IsRight};
+ghost use Rattle.program_shell.specs.Reports.{Hands};
+ghost use Rattle.command_line.specs.Arguments.{IsDue, IsRight};
+ghost use Rattle.command_line.specs.Programs.{ReportsArguments, Runs, RunsReporting, ReportsAnswer, failure_line, language_of, status_of};
 
-use crate::asked::{Choice, Refusal};
+use crate::arguments::choice;
+use crate::commands::Choice;
+use crate::fault_reports::report_fault;
 use crate::kept::KeptIn;
-use crate::statuses::{DONE, FAILED, REFUSED, USAGE};
-use crate::telling::tell_fault;
-use crate::words::choice;
 use asm_script::serve_asm;
 use machine::Config;
 use op_script::serve;
+use program_shell::{DONE, FAILED, REFUSED, Refusal, USAGE, report_to};
 use queue_script::serve_queue;
-use script_io::{ByteIn, ByteOut, ServeError, write_all};
+use script_io::{ByteIn, ByteOut, ServeError};
 use std::alloc::Global;
 use std::convert::AsStr;
 use std::io::ErrorKind;
 
-/// Serves what the words, which begin with the program's name, ask for, and gives the exit status.
-/// Where the words are refused the reason goes to `errors`, and so does a line where the reader, the
-/// writer or memory failed; a failure of `errors` changes nothing.
+/// Serves what the arguments, which begin with the program's name, ask for, and gives the exit status. Where the
+/// arguments are refused the reason goes to `errors`, and so does a line where the reader, the writer or memory failed;
+/// a failure of `errors` changes nothing.
 pub fn program<S: AsStr, R: ByteIn, W: ByteOut, E: ByteOut>(
     alloc: Global,
-    words: &[S],
+    arguments: &[S],
     reader: &mut R,
     writer: &mut W,
     errors: &mut E,
@@ -36,43 +37,43 @@ pub fn program<S: AsStr, R: ByteIn, W: ByteOut, E: ByteOut>(
     requires writer_sound { W.has_failed writer.old ≡ false }
     requires errors_sound { E.has_failed errors.old ≡ false }
     requires few { R.reads_left reader.old ≤ 2 ^ 63 }
-    ensures { Runs (map S.text words.now) (R.to_come reader.old) (R.to_come reader.new) (W.written writer.old) (W.written writer.new)
+    ensures { Runs (map S.text arguments.now) (R.to_come reader.old) (R.to_come reader.new) (W.written writer.old) (W.written writer.new)
         (E.written errors.old) (E.written errors.new) (R.has_failed reader.new) (W.has_failed writer.new) (E.has_failed errors.new) result }
 {
-    match choice(alloc, words) {
+    match choice(alloc, arguments) {
         Ok(choice) => status_of(serve_choice(alloc, choice, reader, writer), errors),
-        Err(refusal) => refuse_words(alloc, refusal, errors),
+        Err(refusal) => refuse_arguments(alloc, refusal, errors),
     }
 }
 
-/// The program over a reader that keeps what passes it: where a line was refused, a line on standard
-/// error says what is wrong with it. It goes to `telling`, which may be another port on the same stream.
-pub fn program_told<S: AsStr, R: ByteIn + Drop, W: ByteOut, E: ByteOut, T: ByteOut>(
+/// The program over a reader that keeps what passes it. Where a line was refused, a line on standard error says what
+/// is wrong with it: it goes to `reports`, which may be another port on the same stream.
+pub fn program_reporting<S: AsStr, R: ByteIn + Drop, W: ByteOut, E: ByteOut, T: ByteOut>(
     alloc: Global,
-    words: &[S],
+    arguments: &[S],
     reader: &mut KeptIn<R>,
     writer: &mut W,
     errors: &mut E,
-    telling: &mut T,
+    reports: &mut T,
 ) -> u8
     requires reader_sound { ⟦<KeptIn<R> as ByteIn>⟧.has_failed reader.old ≡ false }
     requires writer_sound { W.has_failed writer.old ≡ false }
     requires errors_sound { E.has_failed errors.old ≡ false }
-    requires telling_sound { T.has_failed telling.old ≡ false }
+    requires reports_sound { T.has_failed reports.old ≡ false }
     requires few { ⟦<KeptIn<R> as ByteIn>⟧.reads_left reader.old ≤ 2 ^ 63 }
-    ensures { RunsTold (map S.text words.now)
+    ensures { RunsReporting (map S.text arguments.now)
         (⟦<KeptIn<R> as ByteIn>⟧.to_come reader.old) (⟦<KeptIn<R> as ByteIn>⟧.to_come reader.new)
         (W.written writer.old) (W.written writer.new) (E.written errors.old) (E.written errors.new)
-        (T.written telling.old) (T.written telling.new) (⟦<KeptIn<R> as ByteIn>⟧.has_failed reader.new)
-        (W.has_failed writer.new) (E.has_failed errors.new) (T.has_failed telling.new) result }
+        (T.written reports.old) (T.written reports.new) (⟦<KeptIn<R> as ByteIn>⟧.has_failed reader.new)
+        (W.has_failed writer.new) (E.has_failed errors.new) (T.has_failed reports.new) result }
 {
-    match choice(alloc, words) {
+    match choice(alloc, arguments) {
         Ok(choice) => {
             let answer = serve_choice(alloc, choice, reader, writer);
-            tell_fault(alloc, &reader.lines, answer, telling);
+            report_fault(alloc, &reader.lines, answer, reports);
             status_of(answer, errors)
         }
-        Err(refusal) => refuse_words(alloc, refusal, errors),
+        Err(refusal) => refuse_arguments(alloc, refusal, errors),
     }
 }
 
@@ -87,7 +88,8 @@ fn serve_choice<R: ByteIn, W: ByteOut>(
     requires reader_sound { R.has_failed reader.old ≡ false }
     requires writer_sound { W.has_failed writer.old ≡ false }
     requires few { R.reads_left reader.old ≤ 2 ^ 63 }
-    ensures serves { Serves (language_of choice) (R.to_come reader.old) (R.to_come reader.new) (W.written writer.old) (W.written writer.new) (served_as result) }
+    ensures serves { Serves (language_of choice) (R.to_come reader.old) (R.to_come reader.new)
+        (W.written writer.old) (W.written writer.new) (served_as result) }
     ensures blames { IfErr (served_as result) (λ e. Blames e (R.has_failed reader.new) (W.has_failed writer.new)) }
 {
     match choice {
@@ -100,22 +102,22 @@ fn serve_choice<R: ByteIn, W: ByteOut>(
     }
 }
 
-/// Says why the words were refused, and gives the exit status.
-fn refuse_words<E: ByteOut>(alloc: Global, refusal: Refusal, errors: &mut E) -> u8
+/// Reports why the arguments were refused, and gives the exit status.
+fn refuse_arguments<E: ByteOut>(alloc: Global, refusal: Refusal, errors: &mut E) -> u8
     requires { E.has_failed errors.old ≡ false }
-    ensures { (words : List Text) → IsDue refusal words
-        → IsToldWords words (E.written errors.old) (E.written errors.new) (E.has_failed errors.new) result }
+    ensures { (arguments : List Text) → IsDue refusal arguments
+        → ReportsArguments arguments (E.written errors.old) (E.written errors.new) (E.has_failed errors.new) result }
 {
     match refusal {
         Refusal::Memory => out_of_memory(errors),
         Refusal::Usage(error) => match error.to_string(alloc) {
-            Ok(text) => told(errors, text.as_str().as_bytes(), USAGE),
+            Ok(text) => report_to(errors, text.as_str().as_bytes(), USAGE),
             Err(_) => out_of_memory(errors),
         },
     }
 }
 
-/// The size of a machine.
+/// The size of a machine of so many blocks and this quantum.
 fn config_of(blocks: u32, quantum: u32) -> Config
     requires { IsSetup blocks quantum }
     ensures blocks { result.blocks ≡ blocks }
@@ -124,53 +126,38 @@ fn config_of(blocks: u32, quantum: u32) -> Config
     Config::new(blocks, quantum as u8).unwrap()
 }
 
-/// The exit status of a call that served, with a line where a port or memory failed.
+/// The exit status for the answer of a serving call. A line reports a port or memory that failed.
 fn status_of<E: ByteOut>(answer: Result<(), ServeError>, errors: &mut E) -> u8
     requires { E.has_failed errors.old ≡ false }
     ensures status { result ≡ status_of (served_as answer) }
-    ensures line { TellsAnswer (served_as answer) (E.written errors.old) (E.written errors.new) (E.has_failed errors.new) }
+    ensures line { ReportsAnswer (served_as answer) (E.written errors.old) (E.written errors.new) (E.has_failed errors.new) }
 {
     match answer {
         Ok(()) => DONE,
         Err(ServeError::Script(_) | ServeError::Source(_)) => REFUSED,
-        Err(ServeError::Read) => told(errors, b"lockmon: read\n", FAILED),
-        Err(ServeError::Write) => told(errors, b"lockmon: write\n", FAILED),
+        Err(ServeError::Read) => report_to(errors, b"lockmon: read\n", FAILED),
+        Err(ServeError::Write) => report_to(errors, b"lockmon: write\n", FAILED),
         Err(ServeError::Memory) => out_of_memory(errors),
     }
 }
 
-/// Says that there was no memory, and gives the exit status.
+/// Reports that there was no memory, and gives the exit status.
 pub fn out_of_memory<E: ByteOut>(errors: &mut E) -> u8
     requires { E.has_failed errors.old ≡ false }
     ensures status { result ≡ FAILED }
     ensures line { Hands (E.written errors.old) (E.written errors.new) (E.has_failed errors.new) (failure_line failed.Memory) }
 {
-    told(errors, b"lockmon: memory\n", FAILED)
+    report_to(errors, b"lockmon: memory\n", FAILED)
 }
 
-/// Says why the words of the command line could not be read, and gives the exit status: one of them
-/// is no text, which refuses them, or there was no memory.
-pub fn unread_words<E: ByteOut>(kind: ErrorKind, errors: &mut E) -> u8
+/// Reports why the arguments could not be read, and gives the exit status: one of them is not UTF-8, which refuses
+/// them, or there was no memory.
+pub fn unread_arguments<E: ByteOut>(kind: ErrorKind, errors: &mut E) -> u8
     requires { E.has_failed errors.old ≡ false }
     ensures no_text { kind ≡ ErrorKind.InvalidData → result ≡ USAGE }
     ensures no_memory { kind ≢ ErrorKind.InvalidData → result ≡ FAILED }
     ensures line { kind ≢ ErrorKind.InvalidData
         → Hands (E.written errors.old) (E.written errors.new) (E.has_failed errors.new) (failure_line failed.Memory) }
 {
-    if kind == ErrorKind::InvalidData {
-        let text = b"error: invalid UTF-8 was detected in one or more arguments\n";
-        told(errors, text, USAGE)
-    } else {
-        out_of_memory(errors)
-    }
-}
-
-/// Writes a text to the errors, and gives the exit status.
-fn told<E: ByteOut>(errors: &mut E, text: &[u8], status: u8) -> u8
-    requires { E.has_failed errors.old ≡ false }
-    ensures status { result ≡ status }
-    ensures handed { Hands (E.written errors.old) (E.written errors.new) (E.has_failed errors.new) text.now }
-{
-    let _ = write_all(errors, text);
-    status
+    program_shell::unread_arguments(kind, b"lockmon: memory\n", errors)
 }

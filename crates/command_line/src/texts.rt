@@ -1,7 +1,4 @@
-//! What `--help` and `--version` say.
-
-/// The version of the programs.
-pub const VERSION: &str = "0.1.0";
+//! What `--help` says.
 
 /// The program.
 pub const PROGRAM: &str =

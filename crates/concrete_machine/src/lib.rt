@@ -1,4 +1,4 @@
-//! The machine that programs are run on, with the tables that it keeps its locks and its core in.
+//! The machine that programs are run on: `System` of `monitor` with one lock table and one core store.
 #![tactic(auto)]
 
 mod requests;

@@ -4,8 +4,8 @@ ghost use Rattle.lock_queue.specs.StatusWords.{status_of};
 
 use crate::whole_machine::Machine;
 use lock_queue::{Key, LockTable, Request, Status};
-use run_facts::requests_in;
 use std::alloc::{AllocError, Global};
+use wait_graph::requests_in;
 
 impl Machine {
     /// How many requests there are.
@@ -15,7 +15,7 @@ impl Machine {
         self.locks().len()
     }
 
-    /// The request at a place of the list, from 0 on.
+    /// The request at a position of the list, from 0 on.
     pub fn request(&self, i: usize) -> &Request
         requires { i < length self.now.world.requests }
         ensures { slice_get self.now.world.requests i ≡ Some result.now }
@@ -30,7 +30,7 @@ impl Machine {
         requests_in(alloc, self.locks())
     }
 
-    /// What a job is told of a key.
+    /// The status of a lock, as a job sees it.
     pub fn status(&self, key: &Key, job: u8) -> Status
         ensures { result ≡ status_of self.now.world.requests key.now job }
     {

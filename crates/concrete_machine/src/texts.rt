@@ -8,14 +8,14 @@ use queue_script::{push_requests, push_waits};
 use std::alloc::AllocError;
 
 impl Machine {
-    /// Adds the lines of all requests in order of arrival, and `END`.
+    /// Adds a line for each request, in order of arrival, and `END`.
     pub fn push_requests(&self, out: &mut Vec<u8>) -> Result<(), AllocError>
         ensures { OnOk result (out.new.items ≡ out.old.items ++ show_text self.now.world.requests) }
     {
         push_requests(out, self.locks())
     }
 
-    /// Adds who waits for whom, and who waits in a circle.
+    /// Adds the lines on who waits for whom, and on who waits in a circle.
     pub fn push_waits(&self, out: &mut Vec<u8>) -> Result<(), AllocError>
         ensures { OnOk result (out.new.items ≡ out.old.items ++ waits_text self.now.world.requests) }
     {

@@ -1,27 +1,22 @@
-//! The machine, named once with its tables.
+//! The machine with the lock table and the core store of the programs.
 ghost use Rattle.std.specs.Prelude.{ℕ, ◌≡◌, ◌≢◌, ◌≤◌, ◌<◌, ◌⊎◌, true, false, is_some, Some, IfOk};
 ghost use Rattle.word36.specs.declared.sizes.TheConstants.{MOST_REQUESTS};
-ghost use Rattle.lock_laws.specs.Circles.{NoPlainCircle};
 ghost use Rattle.machine.specs.Between.{Between, is_among, next_in};
 ghost use Rattle.machine.specs.Deposits.{deposited, started_at};
 ghost use Rattle.machine.specs.Machine.{happens, after, answers, at_boot};
-ghost use Rattle.machine.specs.Owners.{KeepsOwners};
 ghost use Rattle.machine.specs.Rounds.{rounds, runs_in};
-ghost use Rattle.machine.specs.Safe.{Safe};
-ghost use Rattle.machine.specs.Waits.{WaitsForGrants};
 ghost use Rattle.machine.specs.Views.{job_view, word_in};
-ghost use Rattle.progress_laws.specs.Arrivals.{FrontThinsOver};
-ghost use Rattle.progress_laws.specs.Wakes.{FirstIsGranted, WaitersWaitForOthers, WhoHasRoomIsGranted};
+ghost use Rattle.progress_laws.specs.Promises.{EventKeeps};
 
 use core_store::BlockCore;
 use lock_queue::LockTable;
-use monitor::{Answer, Config, Event, JobView, Rounds, System};
 use lock_table::ProgramTable;
+use monitor::{Answer, Config, Event, JobView, Rounds, System};
 use std::alloc::{AllocError, Global};
 use std::marker::Model;
 use word36::{Address, Word};
 
-/// A machine, as `System` is one, with the lock table and the core of the programs.
+/// A `System` with the lock table and the core store of the programs. Its methods are those of `System`.
 #[derive(Drop)]
 pub struct Machine {
     system: System<ProgramTable, BlockCore>,
@@ -36,7 +31,7 @@ impl Model for Machine {
 }
 
 impl Machine {
-    /// A machine without jobs, with the blocks and the quantum of a `Config`.
+    /// Makes a machine without jobs, with the blocks and the quantum of a `Config`.
     pub fn boot(alloc: Global, config: Config) -> Result<Self, AllocError>
         ensures { IfOk result (λ s. s ≡ at_boot MOST_REQUESTS config.blocks config.quantum) }
     {
@@ -44,24 +39,17 @@ impl Machine {
         Ok(Machine { system })
     }
 
-    /// Makes one event happen. A refused event changes nothing.
+    /// Makes one event happen. A refused event changes nothing. `keeps` has what is promised of every event.
     #[inline(always)]
     pub fn event(&mut self, event: &Event) -> Answer
         ensures state { self.new ≡ (happens self.old event.now).state }
         ensures answer { result ≡ (happens self.old event.now).answer }
-        ensures safe { Safe self.new }
-        ensures waits { WaitsForGrants self.new.world }
-        ensures owners { KeepsOwners self.old event.now }
-        ensures circles { NoPlainCircle self.new.world.requests }
-        ensures front { FrontThinsOver self.old event.now }
-        ensures first { FirstIsGranted self.new.world.requests }
-        ensures room { WhoHasRoomIsGranted self.new.world.requests }
-        ensures others { WaitersWaitForOthers self.new.world.requests }
+        ensures keeps { EventKeeps self.old event.now self.new }
     {
         self.system.event(event)
     }
 
-    /// Makes so many steps, each followed by a tick where `ticking`, and counts those in which a job ran.
+    /// Makes `most` steps, each followed by a tick where `ticking`, and counts those in which a job ran.
     pub fn steps(&mut self, most: u32, ticking: bool) -> u32
         ensures state { self.new ≡ after (rounds most ticking) self.old }
         ensures count { result ≡ runs_in (answers (rounds most ticking) self.old) }
@@ -69,17 +57,18 @@ impl Machine {
         self.system.steps(most, ticking)
     }
 
-    /// Makes rounds at once, each a step with a tick behind it, at most so many and one at least: those of
-    /// the job that is next, up to the first behind which it stands at one of some places.
-    pub fn rounds_to(&mut self, most: u32, places: &[Address]) -> Rounds
+    /// Makes 1 to `most` rounds at once, each a step and a tick: those of the job that is next, up to the
+    /// first after which its PC is one of `addresses`.
+    pub fn rounds_to(&mut self, most: u32, addresses: &[Address]) -> Rounds
         requires { 1 ≤ most }
         ensures state { self.new ≡ after (rounds result.made true) self.old }
         ensures next { next_in self.old ≡ result.job }
         ensures least { 1 ≤ result.made }
         ensures most { result.made ≤ most }
-        ensures between { (k : ℕ) → 1 ≤ k → k < result.made → Between self.old (after (rounds k true) self.old) result.job (is_among places.now) }
+        ensures between { (k : ℕ) → 1 ≤ k → k < result.made
+            → Between self.old (after (rounds k true) self.old) result.job (is_among addresses.now) }
     {
-        self.system.rounds_to(most, places)
+        self.system.rounds_to(most, addresses)
     }
 
     /// What there is to see of a job, if it is there.
@@ -90,19 +79,19 @@ impl Machine {
         self.system.job(n)
     }
 
-    /// The word at a place of a job: a register below 20 octal, and its core from there on. There is none
-    /// where the job is not there or the place is not legal.
+    /// The word at an address of a job: a register below 20 octal, and its core from there on. `None` where
+    /// the job is not there or the address is not legal.
     pub fn peek(&self, n: u8, a: u32) -> Option<Word>
         ensures { result ≡ word_in self.now.world n a }
     {
         self.system.peek(n, a)
     }
 
-    /// Puts a word at a place of a job, as a debugger does. False where the job is not there or the place
-    /// is not legal: then nothing changes. This is no event.
+    /// Stores a word at an address of a job, as a debugger does. False where the job is not there or the
+    /// address is not legal: then nothing changes. This is not an event.
     pub fn deposit(&mut self, n: u8, a: u32, w: Word) -> bool
         ensures state { self.new ≡ deposited self.old n a w }
-        ensures told { result ≡ is_some (word_in self.old.world n a) }
+        ensures found { result ≡ is_some (word_in self.old.world n a) }
         ensures there { result ≡ true → word_in self.new.world n a ≡ Some w }
         ensures others { (m b : ℕ) → (m ≢ n) ⊎ (b ≢ a) → word_in self.new.world m b ≡ word_in self.old.world m b }
         ensures kept { result ≡ false → self.new ≡ self.old }
@@ -110,7 +99,7 @@ impl Machine {
         self.system.deposit(n, a, w)
     }
 
-    /// Starts a job at a place, as a debugger does. This is no event either.
+    /// Starts a job at an address, as a debugger does. This is not an event either.
     pub fn start_at(&mut self, n: u8, a: Address) -> Answer
         ensures state { self.new ≡ (started_at self.old n a).state }
         ensures answer { result ≡ (started_at self.old n a).answer }

@@ -1,18 +1,21 @@
-//! The program: a script from a file or standard input, a report on all orders of its calls to standard
-//! output, and what is wrong with a line that is refused to standard error.
+//! The program: reads a script from a file or standard input, writes a report on all orders of its calls to standard
+//! output, and reports to standard error what is wrong with a line that is refused.
 #![tactic(auto)]
 
-use lockcheck_program::{Progress, program, unread_words};
+use lockcheck_program::{FAILURE_LINES, Progress, program};
+use program_shell::{arguments_of, unread_arguments};
 use script_io::{HostIn, HostOut};
-use std::env;
 use std::io::IsTerminal;
 use std::process::ExitCode;
 
 fn main(rt: HostRuntime) -> ExitCode {
     let mut errors = HostOut::new(rt.stderr());
-    let words = match env::args(&rt).and_then(|args| Ok(args.collect::<Vec<String>>(rt.alloc())?)) {
-        Ok(words) => words,
-        Err(error) => return ExitCode::from(unread_words(error.kind(), &mut errors)),
+    let arguments = match arguments_of(&rt) {
+        Ok(arguments) => arguments,
+        Err(error) => {
+            let status = unread_arguments(error.kind(), FAILURE_LINES.memory, &mut errors);
+            return ExitCode::from(status);
+        }
     };
     let mut reader = HostIn::new(rt.stdin());
     let mut writer = HostOut::new(rt.stdout());
@@ -20,7 +23,7 @@ fn main(rt: HostRuntime) -> ExitCode {
     let mut watch = Progress::new(rt.alloc(), HostOut::new(rt.stderr()), is_wanted);
     let status = program(
         &rt,
-        words.as_slice(),
+        arguments.as_slice(),
         &mut reader,
         &mut writer,
         &mut errors,

@@ -1,4 +1,4 @@
-//! Copies of calls, which stand in the room that a line is read into.
+//! Copies of calls. A call that was read stands in room that the next line is read into.
 ghost use Rattle.std.specs.Prelude.{◌≡◌};
 
 use lock_queue::{LockCall, Wants};

@@ -1,27 +1,27 @@
-//! How far a long search is.
+//! Reports how far a long search is.
 ghost use Rattle.std.specs.Prelude.{◌≡◌, false};
 
 use script_io::{ByteOut, write_all};
 use state_search::Watch;
 use std::alloc::Global;
 
-/// A line is written for so many states.
+/// A line is written whenever so many more states were met.
 const EACH: usize = 50_000;
 
-/// Tells how many states a long search has met, and of how many the moves are still to be made.
+/// Reports how many states a long search has met, and of how many of them the moves are still to be made.
 #[derive(Drop)]
 pub struct Progress<W: ByteOut + Drop> {
     alloc: Global,
     inner: W,
-    /// Whether nothing is written, or nothing more since the port failed.
+    /// Whether nothing is written: it is not wanted, or the port failed.
     is_closed: bool,
-    /// How many states are met when the next line is written.
+    /// The number of states at which the next line is written.
     next: usize,
     ghost sound: { is_closed ≡ false → W.has_failed inner ≡ false },
 }
 
 impl<W: ByteOut + Drop> Progress<W> {
-    /// Tells this port, if it is to be told.
+    /// Reports to this port, if reports are wanted.
     pub fn new(alloc: Global, inner: W, is_wanted: bool) -> Self
         requires { W.has_failed inner ≡ false }
     {

@@ -6,6 +6,7 @@ ghost use Rattle.lockcheck_orders.specs.Programs.{are_right_lines, is_right_line
 use crate::copying::copied_call;
 use crate::rightness::is_right_line;
 use lockcheck_orders::{Line, MOST_LINES, Programs, Step};
+use program_shell::without_return;
 use queue_script::{CallRoom, Command, read_command};
 use script_io::Parts;
 use std::alloc::{AllocError, Global};
@@ -27,10 +28,10 @@ impl From<AllocError> for ScriptError {
     }
 }
 
-/// What a line has to do with programs.
+/// What a line of the script is to the jobs' programs.
 #[derive(Drop)]
 enum Taken {
-    /// Nothing: it is passed over.
+    /// No part of them: it is passed over.
     Nothing,
     /// The script ends there.
     End,
@@ -38,20 +39,12 @@ enum Taken {
     Line(Line),
 }
 
-/// A line without the CR at its end.
-pub fn without_return(line: &[u8]) -> &[u8] {
-    match line {
-        [front @ .., b'\r'] => front,
-        _ => line,
-    }
-}
-
-/// A line of a job's program, if its job can be asked for the step.
+/// A line of a job's program.
 fn kept_line(number: usize, job: u8, step: Step) -> Result<Taken, ScriptError> {
     Ok(Taken::Line(Line { number, job, step }))
 }
 
-/// What the line of this number has to do with programs, if it is in the grammar.
+/// What the line of this number is to the jobs' programs, if it is in the grammar.
 fn take_line(room: &mut CallRoom, number: usize, line: &[u8]) -> Result<Taken, ScriptError> {
     match read_command(room, line) {
         None => Err(ScriptError::Line(number)),
@@ -65,7 +58,7 @@ fn take_line(room: &mut CallRoom, number: usize, line: &[u8]) -> Result<Taken, S
     }
 }
 
-/// Adds a line that is right. Each line in the grammar is, so none is refused here.
+/// Adds a line, which can be asked for: each line in the grammar can, so none is refused here.
 fn add_line(lines: &mut Vec<Line>, line: Line) -> Result<(), ScriptError>
     requires right { are_right_lines lines.old.items ≡ true }
     ensures right { are_right_lines lines.new.items ≡ true }
@@ -108,8 +101,8 @@ fn read_lines(alloc: Global, script: &[u8]) -> Result<Vec<Line>, ScriptError>
     }
 }
 
-/// The programs of the jobs of a script: each job's lines of ENQ, DEQ and FREE, in order. How the
-/// lines of different jobs stand among each other says nothing.
+/// The programs of a script's jobs: each job's lines of ENQ, DEQ and FREE, in order. How the lines of different jobs
+/// stand among each other says nothing.
 pub fn read_programs(alloc: Global, script: &[u8]) -> Result<Programs, ScriptError> {
     let lines = read_lines(alloc, script)?;
     let programs = Programs::new(alloc, lines)?;

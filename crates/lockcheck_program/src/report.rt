@@ -1,36 +1,24 @@
-//! The text of a report.
+//! The text of a report on all orders.
 ghost use Rattle.std.specs.Prelude.{◌≤◌};
 ghost use Rattle.lockcheck_orders.specs.declared.lines.TheConstants.{MOST_LINES};
 
-use crate::reading::without_return;
 use lockcheck_orders::{ANSWERS, Programs, Report, Verdict, WAITS};
-use script_io::{Parts, push_decimal};
+use program_shell::line_at;
+use script_io::push_decimal;
 use std::alloc::{AllocError, Global};
 use std::collections::BTreeSet;
 
 /// The codes of refusals, in the order of their characters.
-const CODES: [u8; 18] = [
+static CODES: [u8; 18] = [
     1, 10, 11, 12, 13, 14, 15, 16, 17, 18, 2, 3, 4, 5, 6, 7, 8, 9,
 ];
-
-/// The line of this number, counted from 1, without its line end.
-pub fn line_at(script: &[u8], number: usize) -> &[u8] {
-    let mut lines = Parts::of(script, b'\n');
-    for _ in 1..number {
-        let _ = lines.next();
-    }
-    match lines.next() {
-        Some(line) => without_return(line),
-        None => b"",
-    }
-}
 
 fn push_number(out: &mut Vec<u8>, alloc: Global, number: usize) -> Result<(), AllocError> {
     let text = format!(in alloc; "{number}")?;
     out.extend_from_slice(text.as_str().as_bytes())
 }
 
-/// Adds the lines that are made in an order.
+/// Adds the lines of the script in the order in which the moves make them.
 fn push_order(
     out: &mut Vec<u8>,
     alloc: Global,
@@ -56,19 +44,19 @@ fn push_order(
     Ok(())
 }
 
-/// Adds a verdict: its word and its jobs, and the lines of its order; or the words for none.
+/// Adds a verdict: its word, its jobs and the lines of its order; or, where there is none, the text for that.
 fn push_verdict(
     out: &mut Vec<u8>,
     alloc: Global,
     programs: &Programs,
     script: &[u8],
-    words: (&[u8], &[u8]),
+    texts: (&[u8], &[u8]),
     verdict: &Option<Verdict>,
 ) -> Result<(), AllocError> {
     let Some(verdict) = verdict else {
-        return out.extend_from_slice(words.1);
+        return out.extend_from_slice(texts.1);
     };
-    out.extend_from_slice(words.0)?;
+    out.extend_from_slice(texts.0)?;
     for job in &verdict.jobs {
         out.push(b' ')?;
         push_decimal(out, *job)?;
@@ -77,16 +65,16 @@ fn push_verdict(
     push_order(out, alloc, programs, script, verdict.moves.as_slice())
 }
 
-/// The answers that some order gives to a line, each behind a comma or, the first, behind a colon.
+/// The answers that some order gives to a line: the first behind a colon, the others behind commas.
 fn answers_to(alloc: Global, all: &BTreeSet<usize>, number: usize) -> Result<Vec<u8>, AllocError>
     requires { number ≤ MOST_LINES }
 {
     let mut text = Vec::new(alloc);
-    for code in CODES {
-        if all.contains(&(number * ANSWERS + usize::from(code))) {
+    for code in &CODES {
+        if all.contains(&(number * ANSWERS + usize::from(*code))) {
             push_separator(&mut text)?;
             text.extend_from_slice(b"CODE ")?;
-            push_decimal(&mut text, code)?;
+            push_decimal(&mut text, *code)?;
         }
     }
     if all.contains(&(number * ANSWERS)) {

@@ -4,8 +4,8 @@ ghost use Rattle.std.specs.List.{list_all};
 ghost use Rattle.lock_queue.specs.WellFormed.{all_share_rightly, is_job, names_locks, shares_rightly};
 ghost use Rattle.lockcheck_orders.specs.Programs.{is_right_line, is_right_step};
 
-use lockcheck_orders::{Line, MOST_LINES, Step};
 use lock_queue::{LockCall, Want};
+use lockcheck_orders::{Line, MOST_LINES, Step};
 use word36::JOBS;
 
 fn is_job(job: u8) -> bool
@@ -55,7 +55,7 @@ fn is_right_step(job: u8, step: &Step) -> bool
     }
 }
 
-/// Whether a line's number is one of a script, and its job can be asked for its step.
+/// Whether a line's number is one of a script, and its step can be asked for its job.
 pub fn is_right_line(line: &Line) -> bool
     ensures { result ≡ is_right_line line.now }
 {

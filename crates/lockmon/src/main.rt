@@ -1,30 +1,30 @@
-//! The program: a script from standard input, its transcript to standard output, and what is wrong with
-//! a line that is refused to standard error.
+//! The program: reads a script from standard input, writes its transcript to standard output, and reports to standard
+//! error what is wrong with a line that is refused.
 #![tactic(auto)]
 
-use command_line::{KeptIn, language_of, program_told, unread_words};
+use command_line::{KeptIn, language_of, program_reporting, unread_arguments};
+use program_shell::arguments_of;
 use script_io::{HostIn, HostOut};
-use std::env;
 use std::process::ExitCode;
 
 fn main(rt: HostRuntime) -> ExitCode {
     let alloc = rt.alloc();
     let mut errors = HostOut::new(rt.stderr());
-    let words = match env::args(&rt).and_then(|args| Ok(args.collect::<Vec<String>>(alloc)?)) {
-        Ok(words) => words,
-        Err(error) => return ExitCode::from(unread_words(error.kind(), &mut errors)),
+    let arguments = match arguments_of(&rt) {
+        Ok(arguments) => arguments,
+        Err(error) => return ExitCode::from(unread_arguments(error.kind(), &mut errors)),
     };
-    let language = language_of(words.as_slice());
+    let language = language_of(arguments.as_slice());
     let mut reader = KeptIn::new(alloc, language, HostIn::new(rt.stdin()));
     let mut writer = HostOut::new(rt.stdout());
-    let mut telling = HostOut::new(rt.stderr());
-    let status = program_told(
+    let mut reports = HostOut::new(rt.stderr());
+    let status = program_reporting(
         alloc,
-        words.as_slice(),
+        arguments.as_slice(),
         &mut reader,
         &mut writer,
         &mut errors,
-        &mut telling,
+        &mut reports,
     );
     ExitCode::from(status)
 }

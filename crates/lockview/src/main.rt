@@ -1,24 +1,26 @@
-//! The program: a script from standard input, its picture to standard output, and what is wrong with a
-//! line that is refused to standard error.
+//! The program: reads a script from standard input, writes its picture to standard output, and reports to standard
+//! error what is wrong with a line that is refused.
 #![tactic(auto)]
 
-use lockview_program::{program, unread_words};
+use lockview_program::{FAILURE_LINES, program};
+use program_shell::{arguments_of, unread_arguments};
 use script_io::{HostIn, HostOut};
-use std::env;
 use std::process::ExitCode;
 
 fn main(rt: HostRuntime) -> ExitCode {
-    let alloc = rt.alloc();
     let mut errors = HostOut::new(rt.stderr());
-    let words = match env::args(&rt).and_then(|args| Ok(args.collect::<Vec<String>>(alloc)?)) {
-        Ok(words) => words,
-        Err(error) => return ExitCode::from(unread_words(error.kind(), &mut errors)),
+    let arguments = match arguments_of(&rt) {
+        Ok(arguments) => arguments,
+        Err(error) => {
+            let status = unread_arguments(error.kind(), FAILURE_LINES.memory, &mut errors);
+            return ExitCode::from(status);
+        }
     };
     let mut reader = HostIn::new(rt.stdin());
     let mut writer = HostOut::new(rt.stdout());
     let status = program(
-        alloc,
-        words.as_slice(),
+        rt.alloc(),
+        arguments.as_slice(),
         &mut reader,
         &mut writer,
         &mut errors,

@@ -4,9 +4,10 @@ ghost use Rattle.std.specs.Prelude.{◌<◌};
 use lock_bars::Column;
 use std::fmt;
 
-/// What the digits of a line's number are worth, from the left; a script has at most 10,000 lines.
+/// The values of the digits of a line's number, from the left; a script has at most 10,000 lines.
 const WORTHS: [usize; 5] = [10_000, 1_000, 100, 10, 1];
 
+/// Writes so many blanks.
 pub fn write_spaces<W: fmt::Write>(f: &mut fmt::Formatter<W>, count: usize) -> fmt::Result {
     for _ in 0..count {
         f.write_str(" ")?;
@@ -41,7 +42,7 @@ fn write_tens<W: fmt::Write>(
     f.write_str("\n")
 }
 
-/// Writes the numbers of so many lines: the tens above, the ones below.
+/// Writes the numbers of so many lines: the tens, and the ones below them.
 fn write_lines<W: fmt::Write>(
     f: &mut fmt::Formatter<W>,
     lines: usize,
@@ -59,7 +60,7 @@ fn write_lines<W: fmt::Write>(
     f.write_str("\n")
 }
 
-/// Writes the digits of one worth of the lines' numbers, each above its column.
+/// Writes the digits of one value of the lines' numbers, each above its column.
 fn write_digits<W: fmt::Write>(
     f: &mut fmt::Formatter<W>,
     columns: &[Column],
@@ -78,7 +79,7 @@ fn write_digits<W: fmt::Write>(
     f.write_str("\n")
 }
 
-/// Writes the numbers of the lines from above to below, the line of each column above it.
+/// Writes the numbers of the lines downwards, each above its column.
 fn write_numbers<W: fmt::Write>(
     f: &mut fmt::Formatter<W>,
     columns: &[Column],

@@ -1,4 +1,4 @@
-//! What is seen along a script of `lockmon run`.
+//! What is seen of the locks along a script of `lockmon run`.
 ghost use Rattle.std.specs.Prelude.{◌≡◌, ◌<◌, ◌≤◌, ◌⊎◌, ℕ, IfOk, IfErr, is_some, length};
 ghost use Rattle.std.specs.Str.Lines.{lines};
 ghost use Rattle.lock_bars.specs.Courses.{has_line};
@@ -12,32 +12,32 @@ use op_script::{Config, RunService};
 use script_io::{Ending, LineService, Parts, number};
 use std::alloc::Global;
 
-/// The most ticks of a line, and of all lines together, that have a column each. A line that runs
-/// more is one column.
+/// The most ticks of a line that have a column each. A line that runs more is one column.
 const MOST_TICKS: usize = 200;
 
+/// The most columns that ticks have. Behind them each line is one column.
 const MOST_COLUMNS: usize = 20_000;
 
 /// The commands that run many ticks or steps, and the line that runs one.
-const RUNNING: [(&[u8], &[u8]); 3] = [
+static RUNNING: [(&[u8], &[u8]); 3] = [
     (b"RUN ", b"RUN 1"),
     (b"STEP ", b"STEP 1"),
     (b"TICK ", b"TICK 1"),
 ];
 
-/// The line that runs one tick, and how many of them a line runs, where it runs many.
+/// The line that runs one tick, and how many of them a line runs; None where it runs no more than one.
 fn ticks_of(line: &[u8]) -> Option<(&'static [u8], usize)> {
-    for (name, one) in RUNNING {
-        if let Some(count) = line.strip_prefix(name) {
+    for (name, one) in &RUNNING {
+        if let Some(count) = line.strip_prefix(*name) {
             let ticks = number(10, MOST_TICKS as u64, count)? as usize;
-            return if ticks > 1 { Some((one, ticks)) } else { None };
+            return if ticks > 1 { Some((*one, ticks)) } else { None };
         }
     }
     None
 }
 
-/// Where the sources of a script stand.
-#[derive(Clone, Copy, Debug)]
+/// Where the last source of a script stands.
+#[derive(Clone, Copy)]
 struct Sources {
     /// The line with the last ASSEMBLE.
     begins: usize,
@@ -46,7 +46,7 @@ struct Sources {
 }
 
 impl Sources {
-    /// Notes a line that was taken, and says whether it belongs to a source.
+    /// Takes note of a line that was served, and says whether it belongs to a source.
     fn note(&mut self, number: usize, line: &[u8]) -> bool {
         if self.is_open {
             self.is_open = line != b"ENDASM".as_slice();
@@ -60,16 +60,16 @@ impl Sources {
     }
 }
 
-/// The line of a source and the code that `?ASM line code` tells.
+/// The line of a source and the code that `?ASM line code` reports.
 fn fault_in(answers: &[u8]) -> Option<(usize, u8)> {
-    let told = answers.strip_prefix(b"?ASM ".as_slice())?;
-    let mut numbers = Parts::of(told.strip_suffix(b"\n".as_slice())?, b' ');
+    let reported = answers.strip_prefix(b"?ASM ".as_slice())?;
+    let mut numbers = Parts::of(reported.strip_suffix(b"\n".as_slice())?, b' ');
     let line = number(10, MOST_LINES as u64, numbers.next()?)?;
     let code = number(10, 7, numbers.next()?)?;
     Some((line as usize, code as u8))
 }
 
-/// The fault of the source that begins at a line of the script.
+/// The fault that the answers report of the source that begins at a line of the script.
 fn source_fault(answers: &[u8], begins: usize) -> ScriptError
     ensures { (number : ℕ) → IsLineFault number result }
 {
@@ -77,8 +77,7 @@ fn source_fault(answers: &[u8], begins: usize) -> ScriptError
     ScriptError::Source(SourceFault { begins, line, code })
 }
 
-/// Takes a line, and says whether the script goes on behind it. The last source began at the line
-/// `begins`.
+/// Serves a line, and says whether the script goes on behind it. The last source began at the line `begins`.
 fn take_line(
     alloc: Global,
     service: &mut RunService,
@@ -98,7 +97,7 @@ fn take_line(
     }
 }
 
-/// Says that no more lines come than these.
+/// Ends the script behind so many lines.
 fn end_lines(alloc: Global, service: &mut RunService, lines: usize) -> Result<(), ScriptError>
     ensures { IfErr result (λ e. (e ≡ ScriptError.Memory) ⊎ (e ≡ ScriptError.NoEnd lines)) }
 {
@@ -109,7 +108,7 @@ fn end_lines(alloc: Global, service: &mut RunService, lines: usize) -> Result<()
     }
 }
 
-/// Takes a line that runs many ticks, one by one, and looks at what each has left.
+/// Serves a line that runs many ticks one by one, and looks at what each tick left.
 fn take_ticks(
     alloc: Global,
     service: &mut RunService,
@@ -135,7 +134,7 @@ fn take_ticks(
     Ok(())
 }
 
-/// Takes a line, looks at what it has left, and says whether the script goes on behind it.
+/// Serves a line, looks at what it left, and says whether the script goes on behind it.
 fn watch_line(
     alloc: Global,
     service: &mut RunService,
@@ -165,8 +164,8 @@ fn watch_line(
     Ok(true)
 }
 
-/// Looks along a script to its end. A line that runs up to 200 ticks or steps has a column for each
-/// of them, and the lines of sources have none.
+/// Serves a script to its end, and looks at what each line left. A line that runs up to 200 ticks or steps has a
+/// column for each of them, and the lines of sources have none.
 fn watch_run(
     alloc: Global,
     service: &mut RunService,
@@ -199,9 +198,9 @@ fn watch_run(
     Ok(seen)
 }
 
-/// Draws a script of `lockmon run`, on a machine with 64 blocks of core and a quantum of one tick,
-/// with the waits after its last line or after the line `at`. It is refused at its first line that is
-/// at fault, and where it has more than 10,000 lines.
+/// Draws a script of `lockmon run`, on a machine with 64 blocks of core and a quantum of one tick, with the waits
+/// after its last line or after the line `at`. The script is refused at its first line that is at fault, and where it
+/// has more than 10,000 lines.
 pub fn draw_run_script(
     alloc: Global,
     script: &[u8],

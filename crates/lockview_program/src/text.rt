@@ -1,18 +1,18 @@
 //! The picture as text for a terminal.
 
 use crate::axis::{write_axis, write_spaces};
-use lock_bars::{Bar, Drawing, Graph, Lane};
-use queue_script::circles::NUMBERS;
+use lock_bars::{Bar, Drawing, Lane};
 use std::fmt;
+use wait_graph::{Graph, NUMBERS};
 
 /// A picture as text, a character for each column.
 #[derive(Clone, Copy)]
 pub struct AsText<'a>(pub &'a Drawing);
 
-/// The columns of `job 63` and what stands behind it.
+/// The width of `job 63` and of the blanks behind it.
 const JOB_WIDTH: usize = 8;
 
-/// What shows a lock that is owned, one that is waited for, a grant, and none.
+/// The signs for a lock that is owned, one that is waited for, a grant, and none.
 const OWNS: char = '#';
 
 const WAITS: char = '/';
@@ -30,7 +30,7 @@ fn longest_label(lanes: &[Lane]) -> usize {
     longest
 }
 
-/// What a lane shows in a column.
+/// The sign of a lane in a column.
 fn sign_at(bars: &[Bar], lane: &Lane, column: usize) -> char {
     for bar in bars {
         if lane.has(bar) && bar.from <= column && column < bar.until {
@@ -63,7 +63,7 @@ fn write_lane<W: fmt::Write>(
     f.write_str("\n")
 }
 
-/// Writes the lanes, with the job before its first one.
+/// Writes the lanes; the first of each job has the job's number before it.
 fn write_lanes<W: fmt::Write>(
     f: &mut fmt::Formatter<W>,
     drawing: &Drawing,
@@ -83,7 +83,7 @@ fn write_lanes<W: fmt::Write>(
     Ok(())
 }
 
-/// Writes the waits, by rising jobs.
+/// Writes the waits, by rising numbers of jobs.
 fn write_waits<W: fmt::Write>(f: &mut fmt::Formatter<W>, graph: &Graph) -> fmt::Result {
     for job in 1..NUMBERS {
         for other in 1..NUMBERS {

@@ -1,20 +1,20 @@
-//! Answers to lines, and other texts.
+//! An output for whole texts.
 ghost use Rattle.std.specs.Prelude.{◌≡◌, false};
 
 use script_io::{ByteOut, Failed, write_all};
 
-/// A port that takes whole answers, and nothing more once it has failed.
+/// An output that takes whole texts, and nothing more once it has failed.
 #[derive(Drop)]
 pub struct Answers<W: ByteOut + Drop> {
     inner: W,
     is_closed: bool,
-    /// Whether the last line is whole.
+    /// Whether the last line that was written is whole, or none was.
     is_line_whole: bool,
     ghost sound: { is_closed ≡ false → W.has_failed inner ≡ false },
 }
 
 impl<W: ByteOut + Drop> Answers<W> {
-    /// Gives answers to this port.
+    /// Writes to this port.
     pub fn new(inner: W) -> Self
         requires { W.has_failed inner ≡ false }
     {
@@ -25,7 +25,7 @@ impl<W: ByteOut + Drop> Answers<W> {
         }
     }
 
-    /// Writes all of these bytes, or fails.
+    /// Writes all of these bytes. Fails where the port fails now, or failed before.
     pub fn write(&mut self, bytes: &[u8]) -> Result<(), Failed> {
         if self.is_closed {
             return Err(Failed);

@@ -1,17 +1,25 @@
-//! What every program of this project has around it: its command line, lines of an input, answers to them, and what
-//! it refuses.
+//! What every program of this project has around it: its command line and its arguments, the lines of an input,
+//! answers to them, what it reports as it ends, and its exit statuses.
 #![tactic(auto)]
 
 mod answers;
+mod arguments;
 mod command;
 mod failure;
-mod given;
 mod line_reader;
+mod pending_text;
 mod refusal;
+mod reports;
+mod statuses;
+mod whole_input;
 
 pub use answers::Answers;
-pub use command::{make_command, make_flag, make_option, with_files};
-pub use failure::Failure;
-pub use given::{config_in, files_in, matches_of, number_of};
-pub use line_reader::{Came, LineReader};
-pub use refusal::{Refusal, Wrong, refused};
+pub use arguments::{MachineSize, arguments_of, files_in, matches_of, number_of, size_in};
+pub use command::{VERSION, make_command, make_flag, make_option, make_top, with_files};
+pub use failure::{Failure, FailureLines};
+pub use line_reader::{LineReader, NextLine};
+pub use pending_text::PendingText;
+pub use refusal::{Refusal, RefusalText, Wrong, refusal_of, refusal_text, refused};
+pub use reports::{refuse_arguments, report_failure, report_to, unread_arguments, write_output};
+pub use statuses::{DONE, FAILED, REFUSED, USAGE};
+pub use whole_input::{line_at, read_whole, without_return};

@@ -9,27 +9,28 @@ use std::alloc::{AllocError, Global};
 /// How many bytes are read at once, at most.
 const PIECE: usize = 4096;
 
-/// So many bytes of a line show whether it is too long: one more than lines may have, and a CR.
+/// How many bytes of a line are kept, at most: one more than lines may have, and a CR, which shows whether it is too
+/// long.
 const MOST_KEPT: usize = LINE_LENGTH + 2;
 
-/// What came of an input.
+/// The next line of an input, or what is in its place.
 #[derive(Clone, Copy, Debug, PartialEq, Eq)]
-pub enum Came {
+pub enum NextLine {
     /// A line.
     Line,
-    /// A line that is longer than lines may be. It was passed over.
+    /// A line that is longer than lines may be. It is passed over.
     TooLong,
     /// The end.
     End,
 }
 
-/// A reader that is asked line by line, and not again once it has ended or failed.
+/// A reader that is read line by line, and not again once it ended or failed.
 #[derive(Drop)]
 pub struct LineReader<R: ByteIn + Drop> {
     reader: R,
-    /// What was read at once, of which some was given already.
+    /// The piece that was read last.
     piece: Vec<u8>,
-    /// How many bytes of the piece were given.
+    /// How many bytes of the piece were given out.
     given: usize,
     /// How many bytes of the piece were read.
     filled: usize,
@@ -56,7 +57,7 @@ impl<R: ByteIn + Drop> LineReader<R> {
         self.has_ended
     }
 
-    /// Reads the next piece where the last one was given; false where there is none.
+    /// Reads the next piece once the last one was given out; false where there is none.
     fn fill(&mut self) -> Result<bool, Failure> {
         if self.given < self.filled {
             return Ok(true);
@@ -80,7 +81,7 @@ impl<R: ByteIn + Drop> LineReader<R> {
         }
     }
 
-    /// The next byte, if one comes. No more is read than a byte before it was not given yet.
+    /// The next byte, if one comes. Nothing is read while a byte of the last piece is left.
     fn next_byte(&mut self) -> Result<Option<u8>, Failure> {
         if !self.fill()? {
             return Ok(None);
@@ -90,9 +91,9 @@ impl<R: ByteIn + Drop> LineReader<R> {
         Ok(byte)
     }
 
-    /// Puts the next line, of which no more than its first `most` bytes are kept, in place of `line`,
-    /// without its LF and a CR before that; false where no line comes. A last line without LF counts
-    /// where it is not empty. No byte behind the LF is waited for.
+    /// Puts the next line in place of `line`, without its LF and a CR before that, and no more than its first
+    /// `most` bytes; false where no line comes. A last line without LF counts where it is not empty. No byte
+    /// behind the LF is waited for.
     fn take_bytes(&mut self, line: &mut Vec<u8>, most: usize) -> Result<bool, Failure> {
         line.clear();
         for _ in 0..u64::MAX {
@@ -111,24 +112,23 @@ impl<R: ByteIn + Drop> LineReader<R> {
         Ok(false)
     }
 
-    /// Puts the next line, of any length, in place of `line`, without its LF and a CR before that; false
-    /// where no line comes. A last line without LF counts where it is not empty. No byte behind the LF is
-    /// waited for.
+    /// Puts the next line, of any length, in place of `line`, without its LF and a CR before that; false where no
+    /// line comes. A last line without LF counts where it is not empty. No byte behind the LF is waited for.
     pub fn next_text(&mut self, line: &mut Vec<u8>) -> Result<bool, Failure> {
         self.take_bytes(line, usize::MAX)
     }
 
-    /// Puts the next line in place of `line`, as `next_text` does, but for one that is too long, of which
-    /// only a beginning comes.
-    pub fn next_line(&mut self, line: &mut Vec<u8>) -> Result<Came, Failure>
-        ensures length { IfOk result (λ came. came ≡ Came.Line → length line.new.items ≤ LINE_LENGTH) }
+    /// Puts the next line in place of `line`, as `next_text` does. Of a line that is too long only a beginning is
+    /// put there.
+    pub fn next_line(&mut self, line: &mut Vec<u8>) -> Result<NextLine, Failure>
+        ensures length { IfOk result (λ next. next ≡ NextLine.Line → length line.new.items ≤ LINE_LENGTH) }
     {
         if !self.take_bytes(line, MOST_KEPT)? {
-            return Ok(Came::End);
+            return Ok(NextLine::End);
         }
         if line.len() > LINE_LENGTH {
-            return Ok(Came::TooLong);
+            return Ok(NextLine::TooLong);
         }
-        Ok(Came::Line)
+        Ok(NextLine::Line)
     }
 }

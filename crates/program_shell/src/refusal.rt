@@ -1,20 +1,22 @@
-//! Why words are refused.
+//! Why arguments are refused.
+ghost use Rattle.clap.specs.Words.{kind_of};
+ghost use Rattle.program_shell.specs.Refusals.{IsKind};
 
 use clap::error::ErrorKind;
 use clap::{Command, Error};
 use std::alloc::{AllocError, Global};
 use word36::JOBS;
 
-/// Why the words were refused.
+/// Why the arguments were refused.
 #[derive(Debug, Drop)]
 pub enum Refusal {
     /// There was no memory.
     Memory,
-    /// They ask for what there is not, or for help or the version.
+    /// They are not in the form that the command line takes, or ask for the help or the version.
     Usage(Error),
 }
 
-/// Why what was asked for is not to be had.
+/// What is wrong with an argument.
 #[derive(Drop)]
 pub enum Wrong<'a> {
     /// There was no memory.
@@ -25,6 +27,8 @@ pub enum Wrong<'a> {
     Ending(&'static str, &'a str, &'static str),
     /// There are more files than jobs.
     Files,
+    /// What these words say.
+    Other(&'static str),
 }
 
 impl From<AllocError> for Wrong<'_> {
@@ -34,7 +38,9 @@ impl From<AllocError> for Wrong<'_> {
 }
 
 /// The refusal for an error of the command line.
-pub(crate) fn refusal_of(error: Error) -> Refusal {
+pub fn refusal_of(error: Error) -> Refusal
+    ensures { IsKind result (kind_of error) }
+{
     if error.kind() == ErrorKind::OutOfMemory {
         Refusal::Memory
     } else {
@@ -42,10 +48,10 @@ pub(crate) fn refusal_of(error: Error) -> Refusal {
     }
 }
 
-/// The refusal that says what is wrong, in the form of the command line's own errors.
-pub fn refused(alloc: Global, command: &mut Command<'_>, wrong: Wrong<'_>) -> Refusal {
-    let text = match wrong {
-        Wrong::Memory => return Refusal::Memory,
+/// What is wrong, in words.
+fn wrong_text(alloc: Global, wrong: Wrong<'_>) -> Result<String, AllocError> {
+    match wrong {
+        Wrong::Memory => Err(AllocError),
         Wrong::Number(option, written, most) => {
             format!(in alloc;
                 "invalid value '{written}' for '--{option} <N>': a number from 1 to {most} is wanted"
@@ -57,12 +63,37 @@ pub fn refused(alloc: Global, command: &mut Command<'_>, wrong: Wrong<'_>) -> Re
         Wrong::Files => format!(in alloc;
             "a machine has at most {JOBS} jobs, and there are more files"
         ),
-    };
-    let Ok(text) = text else {
+        Wrong::Other(text) => String::from_str(alloc, text),
+    }
+}
+
+/// The refusal that says what is wrong, in the form of the command line's own errors.
+pub fn refused(alloc: Global, command: &mut Command<'_>, wrong: Wrong<'_>) -> Refusal {
+    let Ok(text) = wrong_text(alloc, wrong) else {
         return Refusal::Memory;
     };
     match command.error(ErrorKind::ValueValidation, text.as_str()) {
         Ok(error) => Refusal::Usage(error),
         Err(_) => Refusal::Memory,
+    }
+}
+
+/// What is said where arguments are refused.
+#[derive(Drop)]
+pub struct RefusalText {
+    /// The text, in whole lines.
+    pub text: String,
+    /// Whether it is the help or the version, which was asked for.
+    pub is_asked_for: bool,
+}
+
+/// What is said of a refusal, or an error where there is no memory for it.
+pub fn refusal_text(alloc: Global, refusal: Refusal) -> Result<RefusalText, AllocError> {
+    match refusal {
+        Refusal::Memory => Err(AllocError),
+        Refusal::Usage(error) => Ok(RefusalText {
+            text: error.to_string(alloc)?,
+            is_asked_for: !error.use_stderr(),
+        }),
     }
 }

@@ -9,12 +9,12 @@ const HEAD_WORDS: u32 = 2;
 
 const LOCK_WORDS: u32 = 3;
 
-/// So many words a name takes at most, from that of its pointer on: 31 characters, five a word, behind
-/// a beginning that may stand in the word before them.
+/// How many words a name takes at most, from the one of its pointer on: 31 characters, five to a word, and the name
+/// may begin within the first word.
 const NAME_WORDS: u32 = 8;
 
-/// Copies so many words of a job's core to their places, from a place on; behind the last place comes
-/// the first.
+/// Copies `count` words of a job's core, from the address `first` on, to the same indexes of `words`. Behind the last
+/// address comes address 0.
 fn copy_words(machine: &Machine, number: u8, words: &mut [Word], first: u32, count: u32) {
     for i in 0..count {
         let place = first.saturating_add(i) & 0o777_777;
@@ -25,8 +25,8 @@ fn copy_words(machine: &Machine, number: u8, words: &mut [Word], first: u32, cou
     }
 }
 
-/// The core of a job that has so many blocks, of which only the words are read that a lock call's block
-/// at an address and the names that it points to take; all others are 0.
+/// The core of a job that has so many blocks, as far as a lock call needs it: the words of the call's block at an
+/// address, and of the names that it points to. All other words are 0.
 pub fn core_for_block(
     alloc: Global,
     machine: &Machine,

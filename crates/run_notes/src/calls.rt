@@ -1,22 +1,22 @@
-//! Lock calls, told as they are made.
+//! Lock calls, reported as they are made.
 
 use crate::block_words::core_for_block;
 use crate::locks::LockText;
 use crate::snapshot::Snapshot;
 use call_block::{Block, read_block};
+use concrete_machine::Machine;
 use job_sched::{NO_FLAGS, Wait};
 use ka_cpu::{CoreWords, Regs};
 use ka_isa::{Family, classify, decode};
 use lock_queue::{BlockUse, Name, Request, Want};
 use monitor::JobView;
 use run_facts::{CallAnswer, CallSeen, answer_of};
-use concrete_machine::Machine;
 use std::alloc::{AllocError, Global};
 use std::fmt;
 use word36::{Address, Word};
 
 /// A call on the lock queue.
-#[derive(Clone, Copy, Debug, PartialEq, Eq)]
+#[derive(Clone, Copy, PartialEq, Eq)]
 enum LockService {
     Enq,
     Deq,
@@ -67,9 +67,8 @@ impl LockService {
     }
 }
 
-/// The id of a request: a decimal number, with a point behind it, since ids are mostly written in octal
-/// in a source.
-#[derive(Clone, Copy, Debug)]
+/// The id of a request: a decimal number with a point behind it, since sources mostly write ids in octal.
+#[derive(Clone, Copy)]
 pub struct IdText(pub u32);
 
 impl fmt::Display for IdText {
@@ -79,19 +78,19 @@ impl fmt::Display for IdText {
     }
 }
 
-/// A lock call that a job is about to make, as it stands before it: the call may write over its block.
+/// A lock call that a job is about to make, with its block as it stands before the call, which may write over it.
 #[derive(Drop)]
-pub struct CallLook {
+pub struct PendingCall {
     service: LockService,
-    /// The AC field.
+    /// The number of the accumulator, AC.
     ac: u8,
-    /// What AC has: the function and the block's address.
+    /// The word in AC: the function and the block's address.
     asked: Word,
-    /// The block, where the call has one that is right.
+    /// The block, if the call has a valid one.
     block: Option<Block>,
 }
 
-/// The block of a call, where it has one that is right.
+/// The block of a call, if it has a valid one.
 fn block_of(
     alloc: Global,
     machine: &Machine,
@@ -120,7 +119,7 @@ fn block_of(
     Ok(read_block(&regs, &memory, Address::new(address), number, block_use).ok())
 }
 
-impl CallLook {
+impl PendingCall {
     /// The lock call that a job is about to make, if it is one.
     pub fn of(
         alloc: Global,
@@ -139,7 +138,7 @@ impl CallLook {
             _ => return Ok(None),
         };
         let asked = before.registers[usize::from(fields.ac)];
-        Ok(Some(CallLook {
+        Ok(Some(PendingCall {
             service,
             ac: fields.ac,
             asked,
@@ -147,7 +146,7 @@ impl CallLook {
         }))
     }
 
-    /// Whether the call gives up requests that it does not name by their locks.
+    /// Whether the call gives up this request by another way than by its locks.
     fn gives_up(&self, request: &Request) -> bool {
         match (self.service, self.asked.left()) {
             (LockService::Deq, 1) => true,
@@ -156,12 +155,12 @@ impl CallLook {
         }
     }
 
-    /// Whether the call gives up this request of its job, which names a lock of this name.
+    /// Whether the call, of this job, gives up this request, and the request wants a lock of this name.
     fn gives_up_lock(&self, number: u8, request: &Request, name: &Name) -> bool {
         request.job == number && self.gives_up(request) && has_name(request.wants.as_slice(), name)
     }
 
-    /// Whether the call is on a lock of this name: it names it, or gives up a request that does.
+    /// Whether the call is on a lock of this name: it names the lock, or gives up a request that wants it.
     pub fn is_on(&self, machine: &Machine, number: u8, name: &Name) -> bool {
         if let Some(block) = &self.block {
             return has_name(block.wants.as_slice(), name);
@@ -175,7 +174,7 @@ impl CallLook {
     }
 }
 
-/// Whether one of some wants is of a lock of this name.
+/// Whether one of these wants is for a lock of this name.
 fn has_name(wants: &[Want], name: &Name) -> bool {
     for want in wants {
         if want.key.name.is_same(name) {
@@ -185,7 +184,7 @@ fn has_name(wants: &[Want], name: &Name) -> bool {
     false
 }
 
-/// The meaning of a refusal's code.
+/// What a refusal's code means.
 fn code_meaning(code: u32) -> &'static str {
     match code {
         1 => "not granted at once",
@@ -210,7 +209,7 @@ fn code_meaning(code: u32) -> &'static str {
     }
 }
 
-/// Adds locks, each with how many requests own it and wait for it.
+/// Adds the locks of these wants, each with the numbers of its owners and its waiters.
 fn push_statuses(
     text: &mut String,
     machine: &Machine,
@@ -226,7 +225,7 @@ fn push_statuses(
     Ok(())
 }
 
-/// Adds wants.
+/// Adds the locks of these wants.
 pub fn push_wants(text: &mut String, wants: &[Want]) -> Result<(), AllocError> {
     for want in wants {
         let lock = LockText { want };
@@ -240,7 +239,7 @@ fn push_block(
     text: &mut String,
     machine: &Machine,
     number: u8,
-    call: &CallLook,
+    call: &PendingCall,
     block: &Block,
 ) -> Result<(), AllocError> {
     let mut added = Ok(());
@@ -262,7 +261,7 @@ fn push_block(
 }
 
 /// Adds what a call names besides its block: `, request 7.`, `, job 3` or `, to 5`.
-fn push_other(text: &mut String, number: u8, call: &CallLook) -> Result<(), AllocError> {
+fn push_other(text: &mut String, number: u8, call: &PendingCall) -> Result<(), AllocError> {
     let named = call.asked.right();
     match (call.service, call.asked.left()) {
         (LockService::Deq, 2) => write!(text, ", request {}", IdText(named)),
@@ -273,8 +272,8 @@ fn push_other(text: &mut String, number: u8, call: &CallLook) -> Result<(), Allo
     }
 }
 
-/// What a call came to, by how its job stands behind it, and what its accumulator has.
-fn answer_in(job: &JobView, before: &Snapshot, call: &CallLook, left: Word) -> CallAnswer {
+/// What a call answered, by how its job stands behind the call and by the word that its accumulator has then.
+fn answer_in(job: &JobView, before: &Snapshot, call: &PendingCall, left: Word) -> CallAnswer {
     answer_of(CallSeen {
         is_enqueue: call.service == LockService::Enq,
         function: call.asked.left(),
@@ -289,14 +288,14 @@ fn answer_in(job: &JobView, before: &Snapshot, call: &CallLook, left: Word) -> C
 fn push_answer(
     text: &mut String,
     answer: CallAnswer,
-    call: &CallLook,
+    call: &PendingCall,
     left: Word,
 ) -> Result<(), AllocError> {
     let said = match answer {
         CallAnswer::Stopped => "the job is stopped",
         CallAnswer::Waits => "queued, the job waits",
         CallAnswer::Granted => "granted",
-        CallAnswer::ToldLater => "queued, it will be told (code 1)",
+        CallAnswer::NotifiedLater => "queued, it will be told (code 1)",
         CallAnswer::Refused(code) => {
             let meaning = code_meaning(code);
             return write!(text, "refused, code {code}: {meaning}");
@@ -310,13 +309,13 @@ fn push_answer(
     text.push_str(said)
 }
 
-/// Adds the line on a lock call, but for its end. What a call names is nothing where its block is refused.
+/// Adds the line on a lock call, without its end. Where the block was refused, no locks are named.
 fn push_call(
     text: &mut String,
     machine: &Machine,
     tick: u64,
     number: u8,
-    call: &CallLook,
+    call: &PendingCall,
 ) -> Result<(), AllocError> {
     let function = call.asked.left();
     let name = call.service.name();
@@ -332,14 +331,14 @@ fn push_call(
     head.and(named)
 }
 
-/// The line on a lock call that a job has made; an empty text where the job is gone.
+/// The line on a lock call that a job has made; empty where the job is gone.
 pub fn call_line(
     alloc: Global,
     machine: &Machine,
     tick: u64,
     number: u8,
     before: &Snapshot,
-    call: &CallLook,
+    call: &PendingCall,
 ) -> Result<String, AllocError> {
     let mut text = String::new(alloc);
     let Some(job) = machine.job(number) else {

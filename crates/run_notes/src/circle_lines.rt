@@ -1,14 +1,14 @@
 //! Circles of waits, in words.
 
 use crate::locks::NameText;
-use lock_queue::Request;
-use run_facts::{LockBetween, circle_through, is_in_circle, lock_between};
 use concrete_machine::Machine;
+use lock_queue::Request;
 use std::alloc::{AllocError, Global};
+use wait_graph::{LockBetween, circle_through, is_in_circle, lock_between};
 use word36::JOBS;
 
-/// The circle of waits that a job is in, if it is in one: each of these jobs waits for the next, and the
-/// last for the first.
+/// The circle of waits that a job is in, if it is in one: each job of it waits for the next, and the last for the
+/// first.
 pub fn circle_of(alloc: Global, machine: &Machine, job: u8) -> Result<Option<Vec<u8>>, AllocError> {
     let waiting = machine.waiting_jobs();
     let pairs = machine.pair_table(&waiting);
@@ -30,8 +30,8 @@ pub fn has_circle(machine: &Machine) -> bool {
     false
 }
 
-/// Adds what a job of a circle has that the one before it waits for: `has A`, or `is in front for A`
-/// where it does not own it.
+/// Adds which lock a job of a circle has that the job before it waits for: `has A`, or `is in front for A` where it
+/// does not own the lock.
 fn push_has(text: &mut String, between: Option<LockBetween<'_>>) -> Result<(), AllocError> {
     let Some(between) = between else {
         return text.push_str("is in front");
@@ -47,7 +47,7 @@ fn push_has(text: &mut String, between: Option<LockBetween<'_>>) -> Result<(), A
     write!(text, "{has} {name}")
 }
 
-/// Adds what a job of a circle waits for from the next.
+/// Adds which lock a job of a circle waits for, which the next job has.
 fn push_waits(text: &mut String, between: Option<LockBetween<'_>>) -> Result<(), AllocError> {
     match between {
         Some(between) => {
@@ -60,8 +60,8 @@ fn push_waits(text: &mut String, between: Option<LockBetween<'_>>) -> Result<(),
     }
 }
 
-/// Adds a job of a circle, between that which waits for it and that for which it waits:
-/// ` job 1 (has A, waits for B)`.
+/// Adds a job of a circle, which stands between `before`, which waits for it, and `next`, for which it waits: ` job 1
+/// (has A, waits for B)`.
 fn push_job(
     text: &mut String,
     requests: &[Request],
@@ -76,26 +76,26 @@ fn push_job(
         .and(text.push_str(")"))
 }
 
-/// The job at a place of a circle, which begins anew behind its end.
-fn at(circle: &[u8], place: usize) -> u8 {
-    let place = place.checked_rem(circle.len()).unwrap_or(0);
-    circle.get(place).copied().unwrap_or(0)
+/// The job at a position of a circle. Behind the last position comes the first.
+fn at(circle: &[u8], position: usize) -> u8 {
+    let position = position.checked_rem(circle.len()).unwrap_or(0);
+    circle.get(position).copied().unwrap_or(0)
 }
 
-/// The place of the least job of a circle.
-fn least_place(circle: &[u8]) -> usize {
+/// The position of the job with the least number.
+fn least_position(circle: &[u8]) -> usize {
     let mut least = 0;
-    for (place, job) in circle.iter().enumerate() {
+    for (position, job) in circle.iter().enumerate() {
         if *job < at(circle, least) {
-            least = place;
+            least = position;
         }
     }
     least
 }
 
-/// Adds the jobs of a circle, from its least on.
+/// Adds the jobs of a circle, from the one with the least number on.
 fn push_jobs(text: &mut String, requests: &[Request], circle: &[u8]) -> Result<(), AllocError> {
-    let first = least_place(circle);
+    let first = least_position(circle);
     let mut before = at(circle, first.saturating_add(circle.len()).saturating_sub(1));
     for step in 0..circle.len() {
         let job = at(circle, first.saturating_add(step));
@@ -108,7 +108,8 @@ fn push_jobs(text: &mut String, requests: &[Request], circle: &[u8]) -> Result<(
     Ok(())
 }
 
-/// The line on a circle, from its least job on: `tick 94: circle: job 1 (has A, waits for B), job 2 (has B, waits for A)`.
+/// The line on a circle, from its least job on: `tick 94: circle: job 1 (has A, waits for B), job 2 (has B, waits for
+/// A)`.
 pub fn circle_line(
     alloc: Global,
     tick: u64,

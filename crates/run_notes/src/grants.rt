@@ -1,11 +1,11 @@
-//! Grants, and time limits that end, told as they come.
+//! Grants and ended time limits, reported as they come.
 
 use crate::calls::{IdText, push_wants};
 use lock_queue::{EnqueueKind, Request};
 use run_facts::is_new_grant;
 use std::alloc::{AllocError, Global};
 
-/// The id of the last request of a job that waits.
+/// The id of a job's last request that waits.
 fn waiting_id(requests: &[Request], number: u8) -> Option<IdText> {
     let mut id = None;
     for request in requests {
@@ -16,8 +16,7 @@ fn waiting_id(requests: &[Request], number: u8) -> Option<IdText> {
     id
 }
 
-/// The line on a job whose request has left since its limit of time ended, from the requests that there
-/// were before: that of its request that waited.
+/// The line on a job whose time limit ended: its waiting request, which was present before, is gone.
 pub fn limit_line(
     alloc: Global,
     tick: u64,
@@ -41,7 +40,7 @@ fn push_grant(text: &mut String, tick: u64, request: &Request) -> Result<(), All
         .and(text.push_str("\n"))
 }
 
-/// The lines on requests that are granted now and were not when the requests before were present.
+/// A line on each request that is granted now and was not before.
 pub fn grant_lines(
     alloc: Global,
     tick: u64,
@@ -50,8 +49,8 @@ pub fn grant_lines(
 ) -> Result<String, AllocError> {
     let mut text = String::new(alloc);
     let mut added = Ok(());
-    for (place, request) in requests.iter().enumerate() {
-        if is_new_grant(before, requests, place) {
+    for (position, request) in requests.iter().enumerate() {
+        if is_new_grant(before, requests, position) {
             added = added.and(push_grant(&mut text, tick, request));
         }
     }

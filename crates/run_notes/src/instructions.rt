@@ -5,26 +5,26 @@ use source_labels::{Places, Spot, nearest};
 use std::fmt;
 use word36::{Address, Word};
 
-/// DEBRK., which goes back to where its job was interrupted.
+/// The call DEBRK., which goes back to where its job was interrupted.
 pub const DEBRK: u32 = 0o137;
 
-/// Halves from this one on are told as negative numbers.
+/// A half word from this one on is written as a negative number.
 const FIRST_NEGATIVE: u32 = 0o400_000;
 
-/// So many halves there are.
+/// The number of half words.
 const HALVES: u32 = 0o1_000_000;
 
-/// An address: by a label or as a literal where the program has that there, and else in octal, with a
-/// minus sign where the half is negative.
+/// An address as a person reads it: by a label or as a literal where the program has one there, else in octal, with a
+/// minus sign where the half word is negative.
 #[derive(Clone, Copy, Debug)]
 pub struct Reference<'a> {
-    /// Where the labels and the literals of the program stand.
+    /// The program's labels and literals.
     pub places: &'a Places,
     /// The address.
     pub address: u32,
 }
 
-/// Writes a half as a signed number in octal.
+/// Writes a half word as a signed octal number.
 fn write_signed<W: fmt::Write>(half: u32, f: &mut fmt::Formatter<W>) -> fmt::Result {
     if FIRST_NEGATIVE <= half && half < HALVES {
         let magnitude = HALVES - half;
@@ -50,8 +50,8 @@ impl fmt::Display for Reference<'_> {
     }
 }
 
-/// Whether the address of an operation is a number in itself, and no place: that of operations in
-/// immediate mode, of shifts and of CALLI.
+/// Whether the address of an operation is a number in itself and not an address of core: in immediate mode, in shifts
+/// and in CALLI.
 fn is_immediate(op: u16) -> bool {
     match classify(op) {
         Family::Calli | Family::Shift => true,
@@ -72,12 +72,12 @@ fn is_immediate(op: u16) -> bool {
     }
 }
 
-/// Whether an operation takes its address for bits rather than a number.
+/// Whether an operation takes its address as bits and not as a number.
 fn takes_bits(op: u16) -> bool {
     matches!(classify(op), Family::Test | Family::Boolean)
 }
 
-/// The name of a call of the monitor, by the number that its CALLI has.
+/// The name of a monitor call, by the number that its CALLI has.
 fn call_name(number: u32) -> Option<&'static str> {
     let name = match number {
         0 => "RESET",
@@ -100,7 +100,7 @@ fn call_name(number: u32) -> Option<&'static str> {
     Some(name)
 }
 
-/// The name of an instruction of which the AC field is a part: a terminal call, HALT or JRSTF.
+/// The name of an instruction whose AC field belongs to the name: a terminal call, HALT or JRSTF.
 fn name_with_ac(fields: Fields) -> Option<&'static str> {
     let name = match (classify(fields.op), fields.ac) {
         (Family::Ttcall, 0) => "INCHRW",
@@ -120,7 +120,7 @@ fn name_with_ac(fields: Fields) -> Option<&'static str> {
     Some(name)
 }
 
-/// Whether an instruction has no address worth a word: one of 0, where the operation looks at none.
+/// Whether the address of an instruction is left out: it is 0, and the operation does not use it.
 fn has_no_address(fields: Fields) -> bool {
     let looks_at_none = match classify(fields.op) {
         Family::Popj | Family::Jfcl => true,
@@ -131,17 +131,17 @@ fn has_no_address(fields: Fields) -> bool {
     looks_at_none && fields.y == 0 && !fields.i && fields.x == 0
 }
 
-/// An instruction, with labels for the places that it names.
+/// An instruction as a person reads it, with labels for addresses.
 #[derive(Clone, Copy, Debug)]
 pub struct InstructionText<'a> {
-    /// Where the labels and the literals of the program stand.
+    /// The program's labels and literals.
     pub places: &'a Places,
     /// The instruction.
     pub word: Word,
 }
 
 impl InstructionText<'_> {
-    /// Writes an address part.
+    /// Writes the address part of an instruction.
     fn write_address<W: fmt::Write>(
         &self,
         fields: Fields,
@@ -167,7 +167,7 @@ impl InstructionText<'_> {
         Ok(())
     }
 
-    /// Writes an instruction of this name, with its accumulator where that is no part of the name.
+    /// Writes an instruction of this name. The accumulator is left out where it is 0 or belongs to the name.
     fn write_operands<W: fmt::Write>(
         &self,
         name: &str,
@@ -189,7 +189,7 @@ impl InstructionText<'_> {
     }
 }
 
-/// Writes a call of the monitor, which has an accumulator and no address.
+/// Writes a monitor call, which has an accumulator and no address.
 fn write_call<W: fmt::Write>(name: &str, ac: u8, f: &mut fmt::Formatter<W>) -> fmt::Result {
     if ac == 0 {
         f.write_str(name)

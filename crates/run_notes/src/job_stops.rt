@@ -3,7 +3,7 @@
 use job_sched::Stop;
 use ka_cpu::StopReason;
 
-/// Why a job is stopped.
+/// Why a job is stopped, in words for a person.
 pub fn stop_text(stop: Stop) -> &'static str {
     match stop {
         Stop::Loaded => "not started",

@@ -1,5 +1,5 @@
-//! What is told of a run while it goes on: steps, lock calls and grants, who waits and for how long, and
-//! circles of waits.
+//! The lines that are reported of a run while it goes on: steps, lock calls and grants, who waits and for how long,
+//! and circles of waits.
 #![tactic(auto)]
 
 mod block_words;
@@ -12,17 +12,17 @@ mod locks;
 mod snapshot;
 mod steps;
 mod stores;
-mod told_job;
+mod traced_job;
 mod wait_clocks;
 mod wait_lines;
 
-pub use calls::{CallLook, call_line};
+pub use calls::{PendingCall, call_line};
 pub use circle_lines::{circle_line, circle_of, has_circle};
 pub use grants::{grant_lines, limit_line};
 pub use instructions::{InstructionText, Reference};
 pub use job_stops::stop_text;
 pub use snapshot::{Snapshot, effective_address, snapshot_of};
 pub use steps::{step_line, time_limit_line};
-pub use told_job::ToldJob;
+pub use traced_job::TracedJob;
 pub use wait_clocks::WaitClocks;
 pub use wait_lines::lock_wait_text;

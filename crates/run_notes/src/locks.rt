@@ -3,16 +3,16 @@
 use lock_queue::{Key, Name, Scope, Want};
 use std::fmt;
 
-/// A lock as scripts of `lockmon queue` spell it: its name, or its user code in octal behind `#`, and
-/// what is special about the want: `/S` shared, `/Gn` in the group n of those who share, `/B` out of
-/// level order, `/Ln` the level, `/Pn:m` m of a pool of n, `/J` a name of the job's own.
+/// A lock as scripts of `lockmon queue` spell it: its name, or `#` and its user code in octal, and the options of the
+/// want: `/S` shared, `/Gn` in sharer group n, `/B` out of level order, `/Ln` level n, `/Pn:m` m units of a pool of
+/// n, `/J` a name of the job's own.
 #[derive(Clone, Copy)]
 pub struct LockText<'a> {
     /// The want.
     pub want: &'a Want,
 }
 
-/// Writes a character of a name: one that does not print as a backslash and three octal digits.
+/// Writes a character of a name; one that does not print as a backslash and three octal digits.
 fn write_character<W: fmt::Write>(f: &mut fmt::Formatter<W>, character: char) -> fmt::Result {
     if character.is_ascii_graphic() {
         f.write_char(character)
@@ -57,7 +57,7 @@ fn write_options<W: fmt::Write>(f: &mut fmt::Formatter<W>, want: &Want) -> fmt::
     Ok(())
 }
 
-/// A lock's name alone, as it stands in `LockText`.
+/// A lock's name alone, spelled as in `LockText`.
 #[derive(Clone, Copy)]
 pub struct NameText<'a> {
     /// The lock.

@@ -1,25 +1,25 @@
-//! A job before its turn.
+//! A job as it stands before its turn.
 
-use ka_isa::{Family, classify, decode};
 use concrete_machine::Machine;
+use ka_isa::{Family, classify, decode};
 use word36::{Address, Word};
 
-/// So many indirect words, or XCTs, are followed.
+/// How many indirect words, or XCTs, are followed at most.
 const MOST_FOLLOWED: u32 = 64;
 
 /// How many registers there are.
 pub const REGISTERS: usize = 16;
 
 /// What a job executes next, and what it finds there.
-#[derive(Clone, Copy, Debug)]
+#[derive(Clone, Copy)]
 pub struct Snapshot {
-    /// The PC.
+    /// The address of the instruction: the PC.
     pub place: Address,
-    /// The instruction there; 0 where the place is not legal.
+    /// The instruction; 0 where the address is not legal.
     pub instruction: Word,
-    /// What that executes: another instruction where it is XCT.
+    /// The instruction that is executed in the end: another one where the first is XCT.
     pub executed: Word,
-    /// The effective address of what is executed, where there is one.
+    /// The effective address of the executed instruction, where indirect words lead to one.
     pub address: Option<u32>,
     /// The word at that address, where the address is legal.
     pub operand: Option<Word>,
@@ -30,22 +30,25 @@ pub struct Snapshot {
 }
 
 /// How many requests for locks a job has.
-#[derive(Clone, Copy, Debug, PartialEq, Eq)]
+#[derive(Clone, Copy)]
 struct Requests {
     all: usize,
-    /// Those of which it was told.
-    told: usize,
+    /// How many of them the job was notified of.
+    notified: usize,
 }
 
-/// The requests of a job.
+/// Counts the requests of a job.
 fn requests_of(machine: &Machine, number: u8) -> Requests {
-    let mut requests = Requests { all: 0, told: 0 };
+    let mut requests = Requests {
+        all: 0,
+        notified: 0,
+    };
     for i in 0..machine.request_count() {
         let request = machine.request(i);
         if request.job == number {
             requests.all = requests.all.saturating_add(1);
-            if request.told {
-                requests.told = requests.told.saturating_add(1);
+            if request.notified {
+                requests.notified = requests.notified.saturating_add(1);
             }
         }
     }
@@ -53,11 +56,11 @@ fn requests_of(machine: &Machine, number: u8) -> Requests {
 }
 
 impl Snapshot {
-    /// Whether the job's turn was that it was told of a grant by an interrupt, and it executed
-    /// nothing: it knows of one more of as many requests.
+    /// Whether the job's turn was an interrupt, which notifies it of a grant and executes nothing: the job has as
+    /// many requests as before, and was notified of more of them.
     pub fn is_interrupted(&self, machine: &Machine, number: u8) -> bool {
         let requests = requests_of(machine, number);
-        requests.all == self.requests.all && requests.told > self.requests.told
+        requests.all == self.requests.all && requests.notified > self.requests.notified
     }
 }
 
@@ -79,7 +82,7 @@ pub fn effective_address(machine: &Machine, number: u8, word: Word) -> Option<u3
     None
 }
 
-/// The word of a job at an address, where there is one and it is legal.
+/// The word of a job at an address, if there is an address and it is legal.
 fn word_at(machine: &Machine, number: u8, address: Option<u32>) -> Option<Word> {
     match address {
         Some(address) => machine.peek(number, address),
@@ -87,7 +90,7 @@ fn word_at(machine: &Machine, number: u8, address: Option<u32>) -> Option<Word> 
     }
 }
 
-/// What an instruction of a job executes in the end: itself, unless it is XCT.
+/// The instruction that an instruction of a job executes in the end: itself, unless it is XCT.
 fn executed(machine: &Machine, number: u8, instruction: Word) -> Word {
     let mut word = instruction;
     for _ in 0..MOST_FOLLOWED {
@@ -113,7 +116,7 @@ fn registers_of(machine: &Machine, number: u8) -> [Word; REGISTERS] {
     registers
 }
 
-/// A job as it stands at a place.
+/// What a job executes at an address, and what it finds there.
 pub fn snapshot_of(machine: &Machine, number: u8, place: Address) -> Snapshot {
     let instruction = machine.peek(number, place.number()).unwrap_or(Word::new(0));
     let executed = executed(machine, number, instruction);

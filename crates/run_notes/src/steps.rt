@@ -1,21 +1,21 @@
-//! Steps, told as they come.
+//! Steps, reported as they come.
 
 use crate::instructions::{DEBRK, InstructionText};
 use crate::job_stops::stop_text;
 use crate::snapshot::Snapshot;
 use crate::stores::push_changes;
-use crate::told_job::ToldJob;
+use crate::traced_job::TracedJob;
+use concrete_machine::Machine;
 use job_sched::{Stop, Wait};
 use ka_isa::{Family, classify, decode};
 use monitor::JobView;
-use concrete_machine::Machine;
 use std::alloc::{AllocError, Global};
 use word36::Address;
 
-/// What is told of a step begins behind so many columns.
+/// What a step changed begins at this column.
 const HEAD_WIDTH: usize = 44;
 
-/// Whether what a job executes is of those operations that skip, and no jump.
+/// Whether the executed instruction may skip, and is no jump.
 fn may_skip(before: &Snapshot) -> bool {
     match classify(decode(before.executed).op) {
         Family::Compare | Family::SkipOn(_) | Family::Test | Family::Ttcall => true,
@@ -24,10 +24,10 @@ fn may_skip(before: &Snapshot) -> bool {
     }
 }
 
-/// Adds where a job goes from a place, and that it waits or stops.
+/// Adds where a job goes, unless that is the next address, and that it waits or stops.
 fn push_way(
     text: &mut String,
-    job: &ToldJob,
+    job: &TracedJob,
     before: &Snapshot,
     after: &JobView,
 ) -> Result<(), AllocError> {
@@ -51,11 +51,11 @@ fn push_way(
     }
 }
 
-/// Adds the tick, the job and the place of a step: `tick 12, job 1, LOOP+1: `.
+/// Adds the tick, the job and the address of a step: `tick 12, job 1, LOOP+1: `.
 fn push_spot(
     text: &mut String,
     tick: u64,
-    job: &ToldJob,
+    job: &TracedJob,
     place: Address,
 ) -> Result<(), AllocError> {
     let number = job.number;
@@ -63,27 +63,30 @@ fn push_spot(
     write!(text, "tick {tick}, job {number}, {spot}: ")
 }
 
-/// Adds the instruction of a step to the head of its line, and the effective address.
-fn push_instruction(text: &mut String, job: &ToldJob, before: &Snapshot) -> Result<(), AllocError> {
+/// Adds the instruction of a step, filled up to the width of the head, and the effective address.
+fn push_instruction(
+    text: &mut String,
+    job: &TracedJob,
+    before: &Snapshot,
+) -> Result<(), AllocError> {
     let instruction = InstructionText {
         places: &job.places,
         word: before.instruction,
     };
-    let told = write!(text, "{instruction}");
+    let written = write!(text, "{instruction}");
     let blanks = HEAD_WIDTH.saturating_sub(text.len());
     let padded = write!(text, "{:blanks$}", "");
     match before.address {
-        Some(address) => told.and(padded).and(write!(text, "  E {address:o}")),
-        None => told.and(padded),
+        Some(address) => written.and(padded).and(write!(text, "  E {address:o}")),
+        None => written.and(padded),
     }
 }
 
-/// The line on a job whose wait for locks has ended with its limit of time, and that goes on at the error
-/// return of its call.
+/// The line on a job whose wait for locks ended with its time limit. It goes on at the error return of its call.
 pub fn time_limit_line(
     alloc: Global,
     tick: u64,
-    job: &ToldJob,
+    job: &TracedJob,
     after: &JobView,
 ) -> Result<String, AllocError> {
     let mut text = String::new(alloc);
@@ -93,12 +96,12 @@ pub fn time_limit_line(
         .and(Ok(text))
 }
 
-/// Adds what is told of a step, behind its place: what was executed, what changed, and where the job goes
-/// where that is not the next place.
+/// Adds what is reported of a step behind its address: the instruction, what it changed, and where the job goes
+/// unless that is the next address.
 fn push_step(
     text: &mut String,
     machine: &Machine,
-    job: &ToldJob,
+    job: &TracedJob,
     before: &Snapshot,
 ) -> Result<(), AllocError> {
     let Some(after) = machine.job(job.number) else {
@@ -115,14 +118,13 @@ fn push_step(
     added.and(push_way(text, job, before, &after))
 }
 
-/// The line on a step: `tick 12, job 1, LOOP+1: MOVE 1,BLK  E 150  1/ 000001,,000005`, with the
-/// instruction, the effective address, what changed, and where the job goes where that is not the next
-/// place.
+/// The line on a step: `tick 12, job 1, LOOP+1: MOVE 1,BLK  E 150  1/ 000001,,000005`, with the instruction, the
+/// effective address, what it changed, and where the job goes unless that is the next address.
 pub fn step_line(
     alloc: Global,
     machine: &Machine,
     tick: u64,
-    job: &ToldJob,
+    job: &TracedJob,
     before: &Snapshot,
 ) -> Result<String, AllocError> {
     let mut text = String::new(alloc);

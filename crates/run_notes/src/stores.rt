@@ -1,20 +1,25 @@
-//! What a step has changed.
+//! What a step changed.
 
 use crate::instructions::Reference;
 use crate::snapshot::{Snapshot, effective_address};
-use crate::told_job::ToldJob;
-use ka_isa::{Family, classify, decode};
+use crate::traced_job::TracedJob;
 use concrete_machine::Machine;
+use ka_isa::{Family, classify, decode};
 use std::alloc::AllocError;
 use word36::Word;
 
-/// The operations of the family of bytes that store one.
+/// The byte operations that store a byte.
 const IDPB: u16 = 0o136;
 
 const DPB: u16 = 0o137;
 
-/// Adds that a place has a word now: `  WORD/ 000000,,000005`.
-fn push_word(text: &mut String, job: &ToldJob, address: u32, word: Word) -> Result<(), AllocError> {
+/// Adds the word that an address has now: `  WORD/ 000000,,000005`.
+fn push_word(
+    text: &mut String,
+    job: &TracedJob,
+    address: u32,
+    word: Word,
+) -> Result<(), AllocError> {
     let place = Reference {
         places: &job.places,
         address,
@@ -22,11 +27,11 @@ fn push_word(text: &mut String, job: &ToldJob, address: u32, word: Word) -> Resu
     write!(text, "  {place}/ {}", word.octal().as_str())
 }
 
-/// Adds the registers that a step has changed.
+/// Adds the registers that a step changed.
 fn push_registers(
     text: &mut String,
     machine: &Machine,
-    job: &ToldJob,
+    job: &TracedJob,
     before: &Snapshot,
 ) -> Result<(), AllocError> {
     for (register, old) in before.registers.iter().enumerate() {
@@ -39,11 +44,11 @@ fn push_registers(
     Ok(())
 }
 
-/// Adds the word at the effective address, where a step has changed it and it is no register's.
+/// Adds the word at the effective address, where a step changed it and it is no register.
 fn push_operand(
     text: &mut String,
     machine: &Machine,
-    job: &ToldJob,
+    job: &TracedJob,
     before: &Snapshot,
 ) -> Result<(), AllocError> {
     let Some(address) = before.address else {
@@ -58,9 +63,9 @@ fn push_operand(
     }
 }
 
-/// The place, beside the effective address, where an operation has stored a word: the top of the
-/// list of PUSH and PUSHJ, the word of the byte of IDPB and DPB.
-fn place_beside(machine: &Machine, job: &ToldJob, before: &Snapshot) -> Option<u32> {
+/// The address, beside the effective one, where an operation stored a word: the top of the list of PUSH and PUSHJ,
+/// the word with the byte of IDPB and DPB.
+fn address_beside(machine: &Machine, job: &TracedJob, before: &Snapshot) -> Option<u32> {
     let fields = decode(before.executed);
     match classify(fields.op) {
         Family::Push | Family::Pushj => {
@@ -75,7 +80,7 @@ fn place_beside(machine: &Machine, job: &ToldJob, before: &Snapshot) -> Option<u
     }
 }
 
-/// The first and the last place that BLT has stored words in.
+/// The first and the last address where BLT stored words.
 fn block_of(before: &Snapshot) -> Option<(u32, u32)> {
     let fields = decode(before.executed);
     if classify(fields.op) != Family::Blt {
@@ -86,11 +91,11 @@ fn block_of(before: &Snapshot) -> Option<(u32, u32)> {
     Some((first, before.address?.max(first)))
 }
 
-/// Adds the block that BLT has stored: its first word, and up to where it reaches.
+/// Adds the block that BLT stored: its first word, and the address up to which it reaches.
 fn push_block(
     text: &mut String,
     machine: &Machine,
-    job: &ToldJob,
+    job: &TracedJob,
     first: u32,
     last: u32,
 ) -> Result<(), AllocError> {
@@ -108,14 +113,14 @@ fn push_block(
     added.and(write!(text, " .. {reference}"))
 }
 
-/// Adds the word, beside the one at the effective address, that a step has stored.
+/// Adds the word that a step stored beside the one at the effective address.
 fn push_beside(
     text: &mut String,
     machine: &Machine,
-    job: &ToldJob,
+    job: &TracedJob,
     before: &Snapshot,
 ) -> Result<(), AllocError> {
-    let Some(address) = place_beside(machine, job, before) else {
+    let Some(address) = address_beside(machine, job, before) else {
         return Ok(());
     };
     match machine.peek(job.number, address) {
@@ -124,12 +129,12 @@ fn push_beside(
     }
 }
 
-/// Adds what a step has changed: registers, the word at the effective address, and what PUSH, PUSHJ,
-/// IDPB, DPB and BLT store.
+/// Adds what a step changed: registers, the word at the effective address, and what PUSH, PUSHJ, IDPB, DPB and BLT
+/// store.
 pub fn push_changes(
     text: &mut String,
     machine: &Machine,
-    job: &ToldJob,
+    job: &TracedJob,
     before: &Snapshot,
 ) -> Result<(), AllocError> {
     let added = push_registers(text, machine, job, before);

@@ -1,28 +1,28 @@
-//! How long requests wait for their grants, and a table of that by lock.
+//! How long requests wait for their grants, and a table of that by lock. Times are in ticks.
 
 use crate::calls::push_wants;
 use crate::locks::NameText;
 use crate::wait_lines::lock_wait_text;
+use concrete_machine::Machine;
 use lock_queue::{EnqueueKind, Key, Request};
 use run_facts::{is_granted_in, is_left_of};
-use concrete_machine::Machine;
 use std::alloc::{AllocError, Global};
 
-/// So many columns of the table have the name of a lock.
+/// The width of the table's column with the names of locks.
 const NAME_WIDTH: usize = 20;
 
-/// Since when a request is there.
-#[derive(Clone, Copy, Debug)]
+/// How long a request has been present.
+#[derive(Clone, Copy)]
 struct Clock {
     /// The tick in which it came.
     since: u64,
     /// Whether it is granted.
     is_granted: bool,
-    /// Whether it was told that it waits for long.
-    is_told: bool,
+    /// Whether its long wait was reported.
+    is_reported: bool,
 }
 
-/// What is known of the waits for a lock. Times are in ticks.
+/// A row of the table: the waits for a lock.
 #[derive(Drop)]
 struct LockRow {
     key: Key,
@@ -38,33 +38,33 @@ struct LockRow {
     waiting: u64,
 }
 
-/// How long requests wait for their grants.
+/// Clocks that measure how long requests wait for their grants.
 #[derive(Drop)]
 pub struct WaitClocks {
-    /// A wait of more ticks is told.
+    /// A wait of more ticks than these is reported.
     most: u64,
-    /// Clocks of the requests that are present, in order of arrival.
+    /// A clock for each request that is present, in order of arrival.
     clocks: Vec<Clock>,
     rows: Vec<LockRow>,
 }
 
-/// The place of a lock's row, which is behind the last where it has none.
-fn place_of(rows: &[LockRow], key: &Key) -> usize {
-    for (place, row) in rows.iter().enumerate() {
+/// The position of a lock's row, or the number of rows where it has none.
+fn position_of(rows: &[LockRow], key: &Key) -> usize {
+    for (position, row) in rows.iter().enumerate() {
         if row.key.is_same(key) {
-            return place;
+            return position;
         }
     }
     rows.len()
 }
 
-/// The row of a lock, which may be new.
+/// The row of a lock, which is added where there is none.
 fn row_of<'r>(
     rows: &'r mut Vec<LockRow>,
     key: &Key,
 ) -> Result<Option<&'r mut LockRow>, AllocError> {
-    let place = place_of(rows.as_slice(), key);
-    if place == rows.len() {
+    let position = position_of(rows.as_slice(), key);
+    if position == rows.len() {
         rows.push(LockRow {
             key: *key,
             requests: 0,
@@ -74,11 +74,11 @@ fn row_of<'r>(
             waiting: 0,
         })?;
     }
-    Ok(rows.get_mut(place))
+    Ok(rows.get_mut(position))
 }
 
 impl LockRow {
-    /// A wait has taken so many ticks, or takes them up to now.
+    /// Counts a wait that took so many ticks, or has taken them up to now.
     fn add_wait(&mut self, ticks: u64) {
         self.longest = self.longest.max(ticks);
         self.total = self.total.saturating_add(ticks);
@@ -114,7 +114,7 @@ impl LockRow {
     }
 }
 
-/// Whether a request is present no more.
+/// Whether a request is gone.
 fn has_left(old: &Request, requests: &[Request]) -> bool {
     for request in requests {
         if is_left_of(request, old) {
@@ -138,7 +138,7 @@ fn push_granted(
 }
 
 impl WaitClocks {
-    /// Clocks that tell waits of more ticks than these; no request was seen yet.
+    /// Clocks that report waits of more than `most` ticks, before any request.
     pub fn new(alloc: Global, most: u64) -> Self {
         WaitClocks {
             most,
@@ -147,7 +147,7 @@ impl WaitClocks {
         }
     }
 
-    /// Counts a request that has come.
+    /// Counts a request that came.
     fn count(&mut self, request: &Request, is_granted: bool) -> Result<(), AllocError> {
         for want in request.wants.as_slice() {
             if let Some(row) = row_of(&mut self.rows, &want.key)? {
@@ -158,18 +158,19 @@ impl WaitClocks {
         Ok(())
     }
 
-    /// Adds a wait to the rows of the locks of its request.
-    fn add_wait(&mut self, request: &Request, ticks: u64) -> Result<(), AllocError> {
+    /// Counts a wait of a request for each of its locks. It is over, or still goes on where the run ends.
+    fn add_wait(&mut self, request: &Request, ticks: u64, is_over: bool) -> Result<(), AllocError> {
         for want in request.wants.as_slice() {
             if let Some(row) = row_of(&mut self.rows, &want.key)? {
                 row.add_wait(ticks);
+                row.waiting = row.waiting.saturating_add(u64::from(!is_over));
             }
         }
         Ok(())
     }
 
-    /// The clock of a request that is present, from those of the requests before; a line is added where
-    /// it is granted since.
+    /// The clock of a request that is present, from the one that it had before; adds a line where the request was
+    /// granted since.
     fn clock_of(
         &mut self,
         tick: u64,
@@ -178,32 +179,33 @@ impl WaitClocks {
         is_granted: bool,
         text: &mut String,
     ) -> Result<Clock, AllocError> {
-        let mut noted = Ok(());
+        let mut counted = Ok(());
         let clock = match known {
             Some(clock) if is_granted && !clock.is_granted => {
                 let ticks = tick.saturating_sub(clock.since);
-                noted = self
-                    .add_wait(request, ticks)
+                counted = self
+                    .add_wait(request, ticks, true)
                     .and(push_granted(text, tick, ticks, request));
                 clock
             }
             Some(clock) => clock,
             None => {
-                noted = self.count(request, is_granted);
+                counted = self.count(request, is_granted);
                 Clock {
                     since: tick,
                     is_granted,
-                    is_told: false,
+                    is_reported: false,
                 }
             }
         };
-        noted.and(Ok(Clock {
+        counted.and(Ok(Clock {
             is_granted,
             ..clock
         }))
     }
 
-    /// The requests that were present before are these now: tells how long each grant took.
+    /// Takes note of the requests that are present now, and reports how long each new grant took. `before` are
+    /// those of the last call.
     pub fn note(
         &mut self,
         alloc: Global,
@@ -213,9 +215,9 @@ impl WaitClocks {
     ) -> Result<String, AllocError> {
         let mut text = String::new(alloc);
         let mut clocks = Vec::new(alloc);
-        for (place, request) in requests.iter().enumerate() {
+        for (position, request) in requests.iter().enumerate() {
             let known = self.known_clock(before, request);
-            let is_granted = is_granted_in(requests, place);
+            let is_granted = is_granted_in(requests, position);
             let clock = self.clock_of(tick, known, request, is_granted, &mut text)?;
             clocks.push(clock)?;
         }
@@ -224,7 +226,7 @@ impl WaitClocks {
         Ok(text)
     }
 
-    /// The clock of a request, if it was present before.
+    /// The clock of a request, if the request was present before.
     fn known_clock(&self, before: &[Request], request: &Request) -> Option<Clock> {
         for (old, clock) in before.iter().zip(&self.clocks) {
             if is_left_of(request, old) {
@@ -234,25 +236,25 @@ impl WaitClocks {
         None
     }
 
-    /// Adds the waits of requests that have left since, to the rows of their locks.
+    /// Counts the waits of the requests that are gone since.
     fn add_left(
         &mut self,
         tick: u64,
         before: &[Request],
         requests: &[Request],
     ) -> Result<(), AllocError> {
-        for (was, old) in before.iter().enumerate() {
-            if let Some(clock) = self.clocks.get(was).copied() {
+        for (position, old) in before.iter().enumerate() {
+            if let Some(clock) = self.clocks.get(position).copied() {
                 if !clock.is_granted && has_left(old, requests) {
-                    self.add_wait(old, tick.saturating_sub(clock.since))?;
+                    self.add_wait(old, tick.saturating_sub(clock.since), true)?;
                 }
             }
         }
         Ok(())
     }
 
-    /// The lines on jobs that wait for longer than is to be told, each once. The requests are those of
-    /// the machine.
+    /// A line on each job that waits for longer than is to be reported, once for each wait. `requests` are those
+    /// of the machine.
     pub fn overdue(
         &mut self,
         alloc: Global,
@@ -263,11 +265,11 @@ impl WaitClocks {
         let mut text = String::new(alloc);
         for (clock, request) in self.clocks.as_mut_slice().iter_mut().zip(requests) {
             let ticks = tick.saturating_sub(clock.since);
-            let is_silent = clock.is_granted || clock.is_told || ticks <= self.most;
+            let is_silent = clock.is_granted || clock.is_reported || ticks <= self.most;
             if is_silent || request.kind != EnqueueKind::Blocking {
                 continue;
             }
-            clock.is_told = true;
+            clock.is_reported = true;
             let job = request.job;
             let waits = lock_wait_text(alloc, machine, job)?;
             write!(text, "tick {tick}, job {job}: {waits}, for {ticks} ticks\n")?;
@@ -275,18 +277,18 @@ impl WaitClocks {
         Ok(text)
     }
 
-    /// The table by lock, in the order in which they were asked for first; nothing where none was. Waits
-    /// that still go on are counted up to this tick. The requests are those that are present.
+    /// The table by lock, in the order in which locks were first asked for; empty where none was. Waits that
+    /// still go on are counted up to this tick. `requests` are those that are present.
     pub fn table(
         &mut self,
         alloc: Global,
         tick: u64,
         requests: &[Request],
     ) -> Result<String, AllocError> {
-        for (place, request) in requests.iter().enumerate() {
-            if let Some(clock) = self.clocks.get(place).copied() {
+        for (position, request) in requests.iter().enumerate() {
+            if let Some(clock) = self.clocks.get(position).copied() {
                 if !clock.is_granted {
-                    self.end_wait(request, tick.saturating_sub(clock.since))?;
+                    self.add_wait(request, tick.saturating_sub(clock.since), false)?;
                 }
             }
         }
@@ -299,16 +301,5 @@ impl WaitClocks {
             row.push_line(&mut text)?;
         }
         Ok(text)
-    }
-
-    /// A request still waits at the end of the run, for so many ticks.
-    fn end_wait(&mut self, request: &Request, ticks: u64) -> Result<(), AllocError> {
-        for want in request.wants.as_slice() {
-            if let Some(row) = row_of(&mut self.rows, &want.key)? {
-                row.add_wait(ticks);
-                row.waiting = row.waiting.saturating_add(1);
-            }
-        }
-        Ok(())
     }
 }

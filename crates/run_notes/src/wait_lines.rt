@@ -1,10 +1,10 @@
 //! What a job waits for, in words.
 
 use crate::locks::LockText;
-use lock_queue::Request;
-use run_facts::{LockWait, lock_wait};
 use concrete_machine::Machine;
+use lock_queue::Request;
 use std::alloc::{AllocError, Global};
+use wait_graph::{LockWait, lock_wait};
 
 /// Adds what a job waits for: `lock X, held by job 2`, or `lock X, behind job 3` where nobody holds it.
 fn push_wait(text: &mut String, wait: &LockWait<'_>) -> Result<(), AllocError> {
@@ -17,7 +17,7 @@ fn push_wait(text: &mut String, wait: &LockWait<'_>) -> Result<(), AllocError> {
     Ok(())
 }
 
-/// Adds what a job waits for by its request, among these: `waits for lock X, held by job 2`.
+/// Adds what a job waits for, by its request among these: `waits for lock X, held by job 2`.
 pub fn push_lock_wait(
     alloc: Global,
     text: &mut String,

@@ -1,1 +1,1 @@
-pub mod LabelLemmas
+pub mod Nearby

@@ -1,7 +1,7 @@
--- Labels before a place.
+-- Labels before an address.
 use Rattle.std.specs.Prelude.{◌+◌, ◌&&◌, ℕ, if◌then◌else◌, nat_le, nat_lt}
 
--- how near a label comes to a place, that tells of the places from first up to before end: the later the nearer, and
--- not at all where the place is none of these
+-- how near a label, whose addresses go from first up to before end, is to an address: the later the label the nearer, and
+-- 0 where the address is none of these
 abbrev pub reach : ℕ → ℕ → ℕ → ℕ
 reach place first end = if nat_le first place && nat_lt place end then first + 1 else 0

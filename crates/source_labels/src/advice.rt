@@ -1,4 +1,4 @@
-//! What to write instead of a line that is at fault.
+//! Advice on a faulty line: what to write instead.
 
 use crate::faults::Fault;
 use crate::lines::{behind_labels, behind_word, line_at, split_label, without_blanks, word_of};
@@ -9,7 +9,7 @@ use mac_text::folded;
 use std::alloc::{AllocError, Global};
 use std::str;
 
-/// What stands in place of a word of MACRO-10 that is not here, if it is one.
+/// What to write in place of a word of MACRO-10 that this subset lacks, if the word is one.
 fn instead_of(word: &[u8]) -> Option<&'static str> {
     for (names, advice) in &INSTEAD {
         for name in *names {
@@ -21,12 +21,12 @@ fn instead_of(word: &[u8]) -> Option<&'static str> {
     None
 }
 
-/// Whether a text has another in it.
+/// Whether a text contains another.
 fn has(text: &[u8], wanted: &[u8]) -> bool {
     (0..text.len()).any(|start| text[start..].starts_with(wanted))
 }
 
-/// What to write in place of a sign of MACRO-10 that is not here, if a statement has one.
+/// What to write in place of a sign of MACRO-10 that this subset lacks, if a statement has one.
 fn instead_of_sign(statement: &[u8]) -> Option<&'static str> {
     for (sign, advice) in &SIGNS {
         if has(statement, sign.as_bytes()) {
@@ -44,7 +44,7 @@ fn without_comment(statement: &[u8]) -> &[u8] {
     }
 }
 
-/// Whether a statement has a literal that ends on no line of its own, or one in another.
+/// Whether a statement has a literal that does not end on its line, or one within another.
 fn has_wrong_literal(statement: &[u8]) -> bool {
     let mut depth = 0usize;
     for c in statement {
@@ -58,7 +58,7 @@ fn has_wrong_literal(statement: &[u8]) -> bool {
     depth > 0
 }
 
-/// Whether a statement is a text that does not end on its line.
+/// Whether a statement is a text, such as ASCIZ, that does not end on its line.
 fn has_open_text(statement: &[u8]) -> bool {
     let word = word_of(statement);
     let is_text = TEXTS
@@ -76,12 +76,12 @@ fn is_assignment(statement: &[u8]) -> bool {
     matches!(without_blanks(behind_word(statement)), [b'=', ..])
 }
 
-const TEXTS: [&str; 3] = ["ASCII", "ASCIZ", "SIXBIT"];
+static TEXTS: [&str; 3] = ["ASCII", "ASCIZ", "SIXBIT"];
 
 const OPEN_TEXT: &str =
     "a text is whole on one line, between two equal characters: give each line a text of its own";
 
-/// What to say of a statement by the way it is written, whatever its names.
+/// Advice on how a statement is written, whatever its names are.
 fn advice_on_form(statement: &[u8]) -> Option<&'static str> {
     if has_open_text(statement) {
         return Some(OPEN_TEXT);
@@ -95,7 +95,7 @@ fn advice_on_form(statement: &[u8]) -> Option<&'static str> {
     None
 }
 
-/// What to say of a statement that is not in the grammar.
+/// Advice on a statement that is not in the grammar.
 fn advice_on_grammar(alloc: Global, statement: &[u8]) -> Result<Option<String>, AllocError> {
     let word = word_of(statement);
     if let Some(advice) = instead_of(word) {
@@ -117,7 +117,7 @@ fn advice_on_grammar(alloc: Global, statement: &[u8]) -> Result<Option<String>, 
 const WRONG_LITERAL: &str =
     "a literal is whole on one line and has no literal in it: write the words behind a label of their own";
 
-/// The line where a label stands first, before another line, if it stands there.
+/// The number of the first line before another where a label stands, if it stands on one.
 fn first_line_of(source: &[u8], label: &[u8], before: usize) -> Option<usize> {
     let wanted = folded(label);
     for number in 1..before {
@@ -135,7 +135,7 @@ fn first_line_of(source: &[u8], label: &[u8], before: usize) -> Option<usize> {
     None
 }
 
-/// What to say of a line whose label is defined twice.
+/// Advice on a line whose label is defined twice.
 fn advice_on_label(
     alloc: Global,
     source: &[u8],
@@ -158,7 +158,7 @@ fn advice_on_label(
     Ok(None)
 }
 
-/// What to say of a line with a name that is not defined.
+/// Advice on a line with a name that is not defined.
 fn advice_on_name(
     alloc: Global,
     source: &[u8],
@@ -180,7 +180,7 @@ fn advice_on_name(
     }
 }
 
-/// What to write instead of a line that is at fault, where that is known.
+/// Advice on a faulty line, if there is any.
 pub fn advice_of(alloc: Global, source: &[u8], fault: Fault) -> Result<Option<String>, AllocError> {
     let statement = without_blanks(behind_labels(line_at(source, fault.line)));
     match fault.code {

@@ -1,5 +1,5 @@
-//! All that is wrong with a source: the assembler tells the first fault, and is asked again of the
-//! source without the statement at fault.
+//! All faults of a source. The assembler reports the first; it is asked again after each, without the faulty
+//! statement.
 
 use crate::advice::advice_of;
 use crate::lines::{behind_labels, line_at, start_of_line};
@@ -9,14 +9,14 @@ use mac_text::{Statement, parse};
 use source_faults::locate;
 use std::alloc::{AllocError, Global};
 
-/// So many faults are told at most.
-const MOST_TOLD: usize = 20;
+/// The most faults that are reported.
+const MOST_REPORTED: usize = 20;
 
-/// So many are counted at most.
+/// The most faults that are counted.
 const MOST_COUNTED: usize = 1000;
 
 /// What is wrong with a line.
-#[derive(Clone, Copy, Debug, PartialEq, Eq)]
+#[derive(Clone, Copy)]
 pub struct Fault {
     /// Its number, counted from 1; 0 where the source has no line.
     pub line: usize,
@@ -33,7 +33,7 @@ fn first_fault(alloc: Global, text: &[u8]) -> Result<Option<Fault>, AllocError> 
     }
 }
 
-/// Whether a line, which is in the grammar, ends a source.
+/// Whether a line ends a source, if it is in the grammar.
 fn is_end(alloc: Global, line: &[u8]) -> bool {
     match parse(alloc, line) {
         Ok(lines) => match lines.as_slice().last() {
@@ -44,8 +44,8 @@ fn is_end(alloc: Global, line: &[u8]) -> bool {
     }
 }
 
-/// Where a line has what is at fault, from a place in it on, and how long that is: its labels where one
-/// is defined twice, and else its statement.
+/// The position in a line of what is at fault, and its length: the labels where one is defined twice, else the
+/// statement.
 fn at_fault(line: &[u8], fault: Fault) -> (usize, usize) {
     let statement = behind_labels(line).len();
     let labels = line.len().saturating_sub(statement);
@@ -56,7 +56,7 @@ fn at_fault(line: &[u8], fault: Fault) -> (usize, usize) {
     }
 }
 
-/// Puts blanks in place of what is at fault in a line; where END stands there it is kept alone.
+/// Puts blanks in place of what is at fault in a line. Where the line is END, that is kept alone.
 fn blank_line(alloc: Global, text: &mut Vec<u8>, fault: Fault) {
     let line = line_at(text.as_slice(), fault.line);
     let (from, length) = at_fault(line, fault);
@@ -69,8 +69,7 @@ fn blank_line(alloc: Global, text: &mut Vec<u8>, fault: Fault) {
     }
 }
 
-/// Makes the source one without this fault, as far as that goes; false where nothing is left to take
-/// away.
+/// Takes a fault out of a source, as far as that goes; false where nothing is left to take away.
 fn mend(alloc: Global, text: &mut Vec<u8>, fault: Fault) -> Result<bool, AllocError> {
     if fault.code == AsmCode::NoEnd {
         text.extend_from_slice(b"\n END\n")?;
@@ -89,8 +88,8 @@ fn push_indent(text: &mut Vec<u8>, line: &[u8], column: usize) -> Result<(), All
     Ok(())
 }
 
-/// Adds a fault: `FILE:LINE:COLUMN: error: what is wrong (code n)`, the line and a caret below, where
-/// the line is not empty, and what to write instead, where that is known.
+/// Adds the lines on a fault: `FILE:LINE:COLUMN: error: what is wrong (code n)`; the source's line with a caret
+/// below, if it is not empty; and advice, if there is any.
 fn push_fault(
     alloc: Global,
     text: &mut Vec<u8>,
@@ -119,14 +118,14 @@ fn push_fault(
     Ok(())
 }
 
-/// Adds how many faults there are beside those that were told.
+/// Adds how many faults there are beyond those that are reported.
 fn push_more(
     alloc: Global,
     text: &mut Vec<u8>,
     file: &str,
     count: usize,
 ) -> Result<(), AllocError> {
-    let more = count.saturating_sub(MOST_TOLD);
+    let more = count.saturating_sub(MOST_REPORTED);
     if more == 0 {
         return Ok(());
     }
@@ -140,19 +139,19 @@ fn push_more(
     Ok(())
 }
 
-/// What is wrong with a source, whose first fault is this one, in whole lines.
+/// What is wrong with a source, in whole lines. `first` is its first fault.
 pub fn faults_text(
     alloc: Global,
     source: &Source<'_>,
     first: Fault,
 ) -> Result<Vec<u8>, AllocError> {
-    let mut told = Vec::new(alloc);
+    let mut report = Vec::new(alloc);
     let mut rest = Vec::from_slice(alloc, source.text.as_slice())?;
     let mut fault = first;
     let mut count = 0usize;
     for _ in 0..MOST_COUNTED {
-        if count < MOST_TOLD {
-            push_fault(alloc, &mut told, source, fault)?;
+        if count < MOST_REPORTED {
+            push_fault(alloc, &mut report, source, fault)?;
         }
         count = count.saturating_add(1);
         if !mend(alloc, &mut rest, fault)? {
@@ -163,6 +162,6 @@ pub fn faults_text(
             None => break,
         }
     }
-    push_more(alloc, &mut told, source.file, count)?;
-    Ok(told)
+    push_more(alloc, &mut report, source.file, count)?;
+    Ok(report)
 }

@@ -1,19 +1,18 @@
-//! Labels, and the places that they tell of.
+//! Labels, and the addresses that are written by them.
 ghost use Rattle.std.specs.Prelude.{◌≡◌, ◌<◌, ◌≤◌, ◌↔◌, [], All, None, IsNone, IfSome, Contains};
 ghost use Rattle.source_labels.specs.Labels.{reach};
 
 use std::fmt;
 use word36::Address;
 
-/// A label of a source. It tells of its own place, and of those behind it in its block.
+/// A label of a source. Its own address and those behind it in its block are written by it.
 #[derive(Clone, Copy, Debug)]
 pub struct Label {
-    /// Its six characters in SIXBIT, the first in the highest bits; blanks, of code 0, stand behind a
-    /// shorter name.
+    /// Its six characters in SIXBIT, the first in the highest bits. Blanks, of code 0, follow a shorter name.
     pub name: u64,
-    /// Its place.
+    /// Its address.
     pub place: Address,
-    /// The first place behind it of which it tells no more: where the next LOC, or END, ends its block.
+    /// The first address behind it that is not written by it: the next LOC, or END, ends its block there.
     pub end: u32,
 }
 
@@ -29,8 +28,8 @@ impl fmt::Display for Label {
     }
 }
 
-/// How near a label comes to a place, that tells of the places from `label` up to before `end`: the
-/// later the nearer, and not at all where the place is none of these.
+/// How near a label is to an address: the later the label the nearer, and 0 where the address is not in `label` ..
+/// `end`.
 fn reach(place: Address, label: Address, end: u32) -> u32
     ensures { result ≡ reach place label end }
 {
@@ -41,7 +40,7 @@ fn reach(place: Address, label: Address, end: u32) -> u32
     }
 }
 
-/// The label that comes nearest to a place, if there is one at all.
+/// The label that is nearest to an address, if there is any label.
 fn latest(labels: &[Label], place: Address) -> Option<&Label>
     ensures empty { IsNone result ↔ (labels.now ≡ []) }
     ensures there { IfSome result (λ l. Contains labels.now l.now) }
@@ -52,9 +51,8 @@ fn latest(labels: &[Label], place: Address) -> Option<&Label>
         .max_by_key(|label| reach(place, label.place, label.end))
 }
 
-/// The label that stands at a place or, of those before it in its block, nearest to it; of several at
-/// one place the last.
-#[tactic(auto, using(crate::proofs::LabelLemmas::nearest_of, crate::proofs::LabelLemmas::none_before, crate::proofs::LabelLemmas::none_within))]
+/// The label at an address or, of those before it in its block, the nearest; of several at one address the last.
+#[tactic(auto, using(crate::proofs::Nearby::nearest_of, crate::proofs::Nearby::none_before, crate::proofs::Nearby::none_within))]
 pub fn nearest(labels: &[Label], place: Address) -> Option<Label>
     ensures there { IfSome result (λ l. Contains labels.now l) }
     ensures before { IfSome result (λ l. l.place ≤ place) }

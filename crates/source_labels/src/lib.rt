@@ -1,5 +1,5 @@
-//! Sources as they are assembled for a person: with their labels, the places of their literals, and
-//! what is wrong with one that is refused.
+//! Assembles sources for a person: with their labels, the addresses of their literals, and what is wrong with a
+//! source that is refused.
 #![tactic(auto)]
 
 mod advice;

@@ -20,7 +20,8 @@ pub fn line_at(source: &[u8], number: usize) -> &[u8] {
     line.strip_suffix(b"\r".as_slice()).unwrap_or(line)
 }
 
-/// The place where the line of this number begins, counted from 1; the length where there are fewer.
+/// The position where the line of this number begins, counted from 1; the source's length where there are fewer
+/// lines.
 pub fn start_of_line(source: &[u8], number: usize) -> usize {
     let mut rest = source;
     for _ in 1..number {
@@ -29,12 +30,12 @@ pub fn start_of_line(source: &[u8], number: usize) -> usize {
     source.len().saturating_sub(rest.len())
 }
 
-/// Whether a character is one of those that names and numbers are made of.
+/// Whether a character may stand in a name or a number.
 fn is_name_character(c: u8) -> bool {
     c.is_ascii_alphanumeric() || c == b'.' || c == b'$' || c == b'%'
 }
 
-/// A text without the blanks that it begins with.
+/// A text without the blanks at its beginning.
 pub fn without_blanks(text: &[u8]) -> &[u8] {
     for (i, c) in text.iter().enumerate() {
         if *c != b' ' && *c != b'\t' && *c != 0o14 {
@@ -44,7 +45,7 @@ pub fn without_blanks(text: &[u8]) -> &[u8] {
     &[]
 }
 
-/// The letters, digits, points, `$` and `%` that a text begins with.
+/// The word that a text begins with: letters, digits, points, `$` and `%`. Empty where it begins with none of these.
 pub fn word_of(text: &[u8]) -> &[u8] {
     for (i, c) in text.iter().enumerate() {
         if !is_name_character(*c) {
@@ -64,8 +65,7 @@ pub fn behind_word(text: &[u8]) -> &[u8] {
     &[]
 }
 
-/// The first label of a line, and what stands behind its colon; none where the line begins with no
-/// label.
+/// The first label of a line, and what stands behind its colon; None where the line begins with no label.
 pub fn split_label(line: &[u8]) -> Option<(&[u8], &[u8])> {
     let text = without_blanks(line);
     let word = word_of(text);

@@ -1,4 +1,4 @@
-//! Names that are near one that is not defined.
+//! Names that a person may have meant by one that is not defined.
 
 use crate::lines::{behind_word, line_at, split_label, word_of};
 use ka_isa::{mnemonic, named};
@@ -6,7 +6,7 @@ use mac_text::folded;
 use std::alloc::{AllocError, Global};
 use std::str;
 
-/// The calls and the statements that have names, beside the operations.
+/// The names of calls and statements, which are no operations.
 static OTHERS: [&str; 41] = [
     "RESET", "CORE", "EXIT", "LOGOUT", "MSTIME", "PJOB", "SLEEP", "PIINI.", "PISYS.", "DEBRK.",
     "ENQ.", "DEQ.", "ENQC.", "DATRD.", "DATWR.", "MONRT.", "INCHRW", "OUTCHR", "INCHRS", "OUTSTR",
@@ -17,8 +17,7 @@ static OTHERS: [&str; 41] = [
 /// How many operations there are.
 const OPERATIONS: u16 = 0o1000;
 
-/// Whether two names, in upper case, are as long and differ in one character, or in two that stand
-/// side by side and have changed places.
+/// Whether two names in upper case are as long, and differ in one character or by two neighbours that changed places.
 fn differs_in_place(one: &[u8], other: &[u8]) -> bool {
     if one.len() != other.len() {
         return false;
@@ -32,7 +31,7 @@ fn differs_in_place(one: &[u8], other: &[u8]) -> bool {
     differing == 1
 }
 
-/// Whether a longer name is a shorter one with one character more.
+/// Whether a longer name is a shorter one with one more character.
 fn has_one_more(longer: &[u8], shorter: &[u8]) -> bool {
     if longer.len() != shorter.len().saturating_add(1) {
         return false;
@@ -40,7 +39,7 @@ fn has_one_more(longer: &[u8], shorter: &[u8]) -> bool {
     (0..longer.len()).any(|i| longer[..i] == shorter[..i] && longer[i + 1..] == shorter[i..])
 }
 
-/// Whether two names of three characters at least are near each other.
+/// Whether two names of at least three characters differ by one slip.
 fn are_near(one: &[u8], other: &[u8]) -> bool {
     if one.len() < 3 || other.len() < 3 {
         return false;
@@ -48,8 +47,8 @@ fn are_near(one: &[u8], other: &[u8]) -> bool {
     differs_in_place(one, other) || has_one_more(one, other) || has_one_more(other, one)
 }
 
-/// The operation, call or statement that a word is near, which is none of them: with its point, or
-/// with one character otherwise.
+/// The operation, call or statement that may have been meant by a word, which is none: the word with a point behind
+/// it, or one that differs by one slip.
 pub fn near_operation(alloc: Global, word: &[u8]) -> Result<Option<String>, AllocError> {
     let wanted = folded(word);
     let Ok(text) = str::from_utf8(wanted.as_slice()) else {
@@ -77,7 +76,7 @@ pub fn near_operation(alloc: Global, word: &[u8]) -> Result<Option<String>, Allo
     Ok(None)
 }
 
-/// The label of a source that a word is near.
+/// The label of a source that may have been meant by a word.
 fn label_near<'s>(source: &'s [u8], lines: usize, word: &[u8]) -> Option<&'s [u8]> {
     let wanted = folded(word);
     for number in 1..=lines {
@@ -90,7 +89,7 @@ fn label_near<'s>(source: &'s [u8], lines: usize, word: &[u8]) -> Option<&'s [u8
     None
 }
 
-/// The label of a source that a word of a statement is near.
+/// The label of a source that may have been meant by a word of a statement: the first word that has one.
 pub fn near_label<'s>(source: &'s [u8], statement: &[u8]) -> Option<&'s [u8]> {
     let lines = source.iter().filter(|c| **c == b'\n').count();
     let mut rest = statement;

@@ -1,4 +1,4 @@
-//! What MACRO-10 has and this subset has not, and what to write instead.
+//! What MACRO-10 has and this subset lacks, each with what to write instead.
 
 /// Words at the head of a statement.
 pub static INSTEAD: [(&[&str], &str); 17] = [

@@ -1,46 +1,46 @@
-//! Where the labels and the literals of a source stand.
+//! The labels and the literals of a source, with their addresses.
 
 use crate::labels::Label;
-use mac_layout::{Layout, PLACES, clamped};
+use mac_layout::{Layout, MEMORY_SIZE, clamped};
 use mac_text::{Line, Statement};
 use std::alloc::{AllocError, Global};
 use word36::{Address, Image};
 
-/// The places of literals: from `first` on, up to before `end`.
+/// The addresses of literals: `first` .. `end`.
 #[derive(Clone, Copy, Debug, PartialEq, Eq)]
 pub struct Literals {
-    /// The place of END, where the words of literals begin.
+    /// The address of END, where the literals begin.
     pub first: u32,
-    /// The place behind them; `first` where there are none.
+    /// The address behind them; `first` where there are no literals.
     pub end: u32,
 }
 
-/// Where the labels and the literals of a source stand.
+/// The labels and the literals of a source.
 #[derive(Debug, Drop)]
 pub struct Places {
-    /// The labels, in the order in which they are defined.
+    /// The labels, in the order of their definitions.
     pub labels: Vec<Label>,
     /// The literals.
     pub literals: Literals,
 }
 
 impl Literals {
-    /// Whether a literal's word stands at a place.
+    /// Whether an address is a literal's.
     pub fn have(self, place: Address) -> bool {
         self.first <= place.number() && place.number() < self.end
     }
 }
 
-/// Labels as they are gathered: of those of the block in hand it is not known yet where it ends.
+/// The labels so far. It is not yet known where the current block ends.
 #[derive(Drop)]
 struct Gathered {
     labels: Vec<Label>,
-    /// How many of them stand in blocks that have ended.
+    /// How many of them stand in blocks that ended.
     closed: usize,
 }
 
 impl Gathered {
-    /// Adds the labels of a line, which stand at this place.
+    /// Adds the labels of a line at this address.
     fn add(&mut self, line: &Line, place: u32) -> Result<(), AllocError> {
         let Some(place) = Address::try_new(place) else {
             return Ok(());
@@ -53,7 +53,7 @@ impl Gathered {
         Ok(())
     }
 
-    /// The block in hand ends at this place.
+    /// Ends the current block at this address.
     fn close(&mut self, end: u32) {
         let closed = self.closed;
         for label in self.labels.as_mut_slice().iter_mut().skip(closed) {
@@ -63,7 +63,7 @@ impl Gathered {
     }
 }
 
-/// The place behind the words that stand from a place on without a gap.
+/// The address behind the words that stand from `first` on without a gap.
 fn end_of_run(image: &Image, first: u32) -> u32 {
     let mut end = first;
     for (place, _) in image.words.as_slice() {
@@ -74,8 +74,7 @@ fn end_of_run(image: &Image, first: u32) -> u32 {
     end
 }
 
-/// Where the labels and the literals of the lines of a source stand, which are laid out so and make
-/// this image.
+/// The labels and the literals of a source, by its lines, their layout and the image that they make.
 pub fn places_of(
     alloc: Global,
     lines: &[Line],
@@ -87,8 +86,8 @@ pub fn places_of(
         closed: 0,
     };
     let mut end = 0;
-    for (line, place) in lines.iter().zip(layout.places.as_slice()) {
-        let place = clamped(place, PLACES) as u32;
+    for (line, place) in lines.iter().zip(layout.addresses.as_slice()) {
+        let place = clamped(place, MEMORY_SIZE) as u32;
         gathered.add(line, place)?;
         if let Some(Statement::Loc(_) | Statement::End(_)) = &line.statement {
             gathered.close(place);

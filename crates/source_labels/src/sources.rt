@@ -1,4 +1,4 @@
-//! Sources, and what is wrong with one that is refused.
+//! Sources, and what they are assembled to.
 
 use crate::faults::{Fault, faults_text};
 use crate::places::{Places, places_of};
@@ -17,18 +17,18 @@ pub struct Source<'a> {
     pub text: Vec<u8>,
 }
 
-/// A program, as a source was assembled to it.
+/// A program that a source was assembled to.
 #[derive(Drop)]
 pub struct Program<'a> {
     /// The name of the source's file.
     pub file: &'a str,
     /// The words.
     pub image: Image,
-    /// Where its labels and literals stand.
+    /// Its labels and literals.
     pub places: Places,
 }
 
-/// What came of a source.
+/// The outcome of assembling a source.
 #[derive(Drop)]
 pub enum Assembled<'a> {
     /// A program.
@@ -37,7 +37,7 @@ pub enum Assembled<'a> {
     Refused(Vec<u8>),
 }
 
-/// The image of a source, and where its labels and literals stand.
+/// The image of a source, and its labels and literals.
 fn assemble_with_places(alloc: Global, text: &[u8]) -> Result<(Image, Places), AsmError> {
     let image = assemble(alloc, text)?;
     let lines = parse(alloc, text)?;
@@ -46,7 +46,7 @@ fn assemble_with_places(alloc: Global, text: &[u8]) -> Result<(Image, Places), A
     Ok((image, places))
 }
 
-/// Assembles a source.
+/// Assembles a source. One that is refused is no error: the text says what is wrong with it.
 pub fn assemble_source<'a>(
     alloc: Global,
     source: &Source<'a>,

@@ -1,22 +1,21 @@
-//! Places in words.
+//! Addresses as a person reads them.
 
 use crate::labels::nearest;
 use crate::places::Places;
 use std::fmt;
 use word36::Address;
 
-/// A place, told by the nearest label of its block: `LOOP+3`, with the offset in octal; among the
-/// literals as `[..]`, and `[..+3]` three words behind the first of them; elsewhere in six octal
-/// digits.
+/// An address as a person reads it: by the nearest label of its block, as `LOOP+3` with the offset in octal; among
+/// the literals `[..]`, and `[..+3]` three words behind the first; elsewhere six octal digits.
 #[derive(Clone, Copy, Debug)]
 pub struct Spot<'a> {
-    /// Where the labels and the literals of the program stand.
+    /// The program's labels and literals.
     pub places: &'a Places,
-    /// The place.
+    /// The address.
     pub place: Address,
 }
 
-/// Writes how far a place stands behind another, where it is not the same.
+/// Writes how far an address is behind another, unless they are the same.
 fn write_offset<W: fmt::Write>(
     place: Address,
     from: u32,

@@ -1,15 +1,14 @@
-//! What a person may not have meant.
+//! Warnings: what a person may not have meant.
 
 use crate::places::Places;
-use machine::HIGHEST_PLACE;
+use machine::JBREL;
 use std::alloc::{AllocError, Global};
 use word36::Image;
 
-/// Places below this one are not meant for programs.
+/// Addresses below this one are not meant for programs.
 const FIRST_PLACE: u32 = 0o140;
 
-/// What a person may not have meant of a program: a word where LOGIN writes over it, and literals below
-/// the places of programs.
+/// The warnings on a program: of a word where LOGIN writes over it, and of literals below the addresses of programs.
 pub fn warnings_of(
     alloc: Global,
     file: &str,
@@ -21,10 +20,10 @@ pub fn warnings_of(
         .words
         .as_slice()
         .iter()
-        .any(|(place, _)| *place == HIGHEST_PLACE)
+        .any(|(place, _)| *place == JBREL)
     {
         let line = format!(in alloc;
-            "{file}: warning: the word at {HIGHEST_PLACE:o} is lost: LOGIN writes the highest place of the job's core there\n"
+            "{file}: warning: the word at {JBREL:o} is lost: LOGIN writes the highest place of the job's core there\n"
         )?;
         text.push_str(line.as_str())?;
     }

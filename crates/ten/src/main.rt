@@ -1,31 +1,28 @@
-//! The program: sources that its words name are assembled and run.
+//! The program: assembles the sources that its arguments name, and runs them.
 #![tactic(auto)]
 
 mod terminal;
 
 use crate::terminal::Terminal;
-use program_shell::{Answers, LineReader};
+use program_shell::{Answers, LineReader, arguments_of, unread_arguments};
 use script_io::{HostIn, HostOut};
-use std::env;
-use std::io::{self, ErrorKind};
+use std::io::ErrorKind;
 use std::process::ExitCode;
-use ten_program::{not_begun, ten};
-
-/// The words of the command line, which begin with the program's name.
-fn words_of(rt: &HostRuntime) -> io::Result<Vec<String>> {
-    let words = env::args(rt)?.collect::<Vec<String>>(rt.alloc())?;
-    Ok(words)
-}
+use ten_program::{FAILURE_LINES, ten};
 
 fn main(rt: HostRuntime) -> ExitCode {
     let alloc = rt.alloc();
-    let errors = HostOut::new(rt.stderr());
-    let words = match words_of(&rt) {
-        Ok(words) => words,
-        Err(error) => return ExitCode::from(not_begun(alloc, error.kind(), errors)),
+    let mut errors = HostOut::new(rt.stderr());
+    let arguments = match arguments_of(&rt) {
+        Ok(arguments) => arguments,
+        Err(error) => {
+            let status = unread_arguments(error.kind(), FAILURE_LINES.memory, &mut errors);
+            return ExitCode::from(status);
+        }
     };
     let Ok(input) = LineReader::new(alloc, HostIn::new(rt.stdin())) else {
-        return ExitCode::from(not_begun(alloc, ErrorKind::OutOfMemory, errors));
+        let kind = ErrorKind::OutOfMemory;
+        return ExitCode::from(unread_arguments(kind, FAILURE_LINES.memory, &mut errors));
     };
     let mut terminal = Terminal {
         rt: &rt,
@@ -33,5 +30,5 @@ fn main(rt: HostRuntime) -> ExitCode {
         output: Answers::new(HostOut::new(rt.stdout())),
         errors: Answers::new(errors),
     };
-    ExitCode::from(ten(alloc, words.as_slice(), &mut terminal))
+    ExitCode::from(ten(alloc, arguments.as_slice(), &mut terminal))
 }

@@ -1,19 +1,19 @@
 //! The last steps of a job.
 
-use crate::pending_text::PendingText;
+use program_shell::PendingText;
 use std::alloc::{AllocError, Global};
 
-/// The lines on the last steps of a job, so many at most.
+/// The lines on the last steps of a job, `most` of them at most.
 #[derive(Drop)]
 pub struct History {
     most: usize,
     lines: Vec<String>,
-    /// Where the next line goes, once there are as many as are kept: in place of the oldest.
+    /// The position of the oldest line, once there are as many as are kept: the next line takes its place.
     next: usize,
 }
 
 impl History {
-    /// No steps yet, of which so many are kept.
+    /// No steps yet; `most` is how many are kept.
     pub fn new(alloc: Global, most: usize) -> Self {
         History {
             most,
@@ -38,11 +38,11 @@ impl History {
         Ok(())
     }
 
-    /// Tells the lines, the oldest first.
-    pub fn tell(&self, errors: &mut PendingText) {
+    /// Reports the lines, the oldest first.
+    pub fn report(&self, errors: &mut PendingText) {
         for i in 0..self.lines.len() {
-            let place = self.next.saturating_add(i).checked_rem(self.lines.len());
-            if let Some(line) = self.lines.get(place.unwrap_or(0)) {
+            let position = self.next.saturating_add(i).checked_rem(self.lines.len());
+            if let Some(line) = self.lines.get(position.unwrap_or(0)) {
                 errors.say(line.as_str());
             }
         }

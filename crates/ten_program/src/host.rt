@@ -1,19 +1,19 @@
-//! What a run asks of the world around it.
+//! What a run needs of the world around it.
 
-use program_shell::Failure;
+use program_shell::{Failure, PendingText};
 use script_io::Failed;
 use std::io;
 
 /// Where something is written.
 #[derive(Clone, Copy)]
 pub enum Stream {
-    /// Where goes what jobs type out, and the help.
+    /// Takes what jobs type out, and the help.
     Output,
-    /// Where a person is told how jobs ended, and what is wrong.
+    /// Takes what is reported to a person: how jobs ended, and what is wrong.
     Errors,
 }
 
-/// What a run asks of the world around it.
+/// What a run needs of the world around it.
 pub trait Host {
     /// Puts the next line of the input, without its end, in place of `line`; false where none comes.
     fn next_line(&mut self, line: &mut Vec<u8>) -> Result<bool, Failure>;
@@ -29,4 +29,16 @@ pub trait Host {
 
     /// Writes bytes to a file.
     fn write_file(&mut self, file: &str, bytes: &[u8]) -> io::Result<()>;
+}
+
+/// Writes a text as far as it was put together, and begins it anew; fails where there was no memory for all of it.
+pub fn write_pending<H: Host>(
+    host: &mut H,
+    stream: Stream,
+    text: &mut PendingText,
+) -> Result<(), Failure> {
+    if !text.as_bytes().is_empty() && host.write(stream, text.as_bytes()).is_err() {
+        return Err(Failure::Write);
+    }
+    text.restart()
 }

@@ -1,25 +1,25 @@
 //! The jobs of a run.
 
-use crate::pending_text::PendingText;
 use crate::terminal::Terminal;
-use job_sched::{Stop, Wait};
-use run_facts::Standing;
 use concrete_machine::Machine;
-use run_notes::{ToldJob, lock_wait_text, stop_text};
+use job_sched::{Stop, Wait};
+use program_shell::PendingText;
+use run_facts::Standing;
+use run_notes::{TracedJob, lock_wait_text, stop_text};
 use word36::Address;
 
 /// A job of a run.
 #[derive(Drop)]
 pub struct RunningJob {
-    /// What is told of it.
-    pub told: ToldJob,
+    /// What is reported of its steps.
+    pub traced: TracedJob,
     /// Its terminal line.
     pub terminal: Terminal,
-    /// In how many steps it ran.
+    /// How many steps it has run.
     pub steps: u64,
 }
 
-/// How a job stands.
+/// Whether a job is gone, stopped or goes on.
 pub fn standing_of(machine: &Machine, number: u8) -> Standing {
     match machine.job(number) {
         None => Standing::Gone,
@@ -30,8 +30,8 @@ pub fn standing_of(machine: &Machine, number: u8) -> Standing {
     }
 }
 
-/// Tells what a job waits for.
-fn tell_wait(machine: &Machine, number: u8, wait: Wait, errors: &mut PendingText) {
+/// Reports what a job waits for.
+fn report_wait(machine: &Machine, number: u8, wait: Wait, errors: &mut PendingText) {
     match wait {
         Wait::None => errors.say("still runs"),
         Wait::Sleep(ticks) => errors.say_number("sleeps for ", u64::from(ticks), " ticks more"),
@@ -47,50 +47,50 @@ fn tell_wait(machine: &Machine, number: u8, wait: Wait, errors: &mut PendingText
     }
 }
 
-/// Tells a place of a job's program.
-fn tell_spot(job: &ToldJob, place: Address, errors: &mut PendingText) {
+/// Reports an address of a job's program.
+fn report_spot(job: &TracedJob, place: Address, errors: &mut PendingText) {
     let alloc = errors.alloc;
     let spot = job.spot(place);
     errors.say_made(format!(in alloc; " at {spot}"));
 }
 
 impl RunningJob {
-    /// Tells how it stands, and where.
-    fn tell_standing(&self, machine: &Machine, standing: Standing, errors: &mut PendingText) {
-        let mut place = self.told.last;
+    /// Reports how it stands, and at which address.
+    fn report_standing(&self, machine: &Machine, standing: Standing, errors: &mut PendingText) {
+        let mut place = self.traced.last;
         match standing {
             Standing::Gone => errors.say("LOGOUT"),
             Standing::Stopped(stop) => {
                 errors.say(stop_text(stop));
                 if stop == Stop::Typed {
-                    place = self.told.next;
+                    place = self.traced.next;
                 }
             }
             Standing::Goes(wait) => {
-                tell_wait(machine, self.told.number, wait, errors);
+                report_wait(machine, self.traced.number, wait, errors);
                 if wait == Wait::None {
-                    place = self.told.next;
+                    place = self.traced.next;
                 } else {
                     errors.say(",");
                 }
             }
         }
-        tell_spot(&self.told, place, errors);
+        report_spot(&self.traced, place, errors);
     }
 
-    /// Tells how it stands, in a line that begins with its number and the name of its source's file:
-    /// `job 1, FILE: HALT at LOOP+3, 12 steps`.
-    pub fn tell_end(
+    /// Reports how it stands, in a line that begins with its number and its source's file: `job 1, FILE: HALT at
+    /// LOOP+3, 12 steps`.
+    pub fn report_end(
         &self,
         machine: &Machine,
         file: &str,
         standing: Standing,
         errors: &mut PendingText,
     ) {
-        errors.say_number("job ", u64::from(self.told.number), ", ");
+        errors.say_number("job ", u64::from(self.traced.number), ", ");
         errors.say(file);
         errors.say(": ");
-        self.tell_standing(machine, standing, errors);
+        self.report_standing(machine, standing, errors);
         let unit = if self.steps == 1 {
             " step\n"
         } else {

@@ -1,15 +1,15 @@
-//! Programs that are assembled and run in one command: a job for each source, whose terminals are
-//! connected to the input and the output.
+//! Programs that are assembled and run in one command: a job for each source. The jobs' terminals are connected to the
+//! input and the output.
 #![tactic(auto)]
 
-mod asked;
+mod arguments;
 mod history;
 mod host;
 mod jobs;
 mod loading;
-mod looks;
+mod next_steps;
 mod notes;
-mod pending_text;
+mod options;
 mod picture;
 mod program;
 mod running;
@@ -18,10 +18,8 @@ mod terminal;
 mod texts;
 mod typing;
 mod waits;
-mod words;
 
-pub use asked::Asked;
+pub use arguments::read_arguments;
 pub use host::{Host, Stream};
-pub use program::{not_begun, ten};
-pub use program_shell::Refusal;
-pub use words::read_words;
+pub use options::Options;
+pub use program::{FAILURE_LINES, ten};

@@ -1,16 +1,16 @@
-//! Sources that are assembled, and jobs that are logged in for them.
+//! Assembles sources, and logs a job in for each.
 
 use crate::jobs::RunningJob;
-use crate::pending_text::PendingText;
 use crate::terminal::Terminal;
-use monitor::{Answer, Event, RefusedEvent};
 use concrete_machine::Machine;
-use run_notes::ToldJob;
+use monitor::{Answer, Event, RefusedEvent};
+use program_shell::PendingText;
+use run_notes::TracedJob;
 use source_labels::{Assembled, Program, Source, assemble_source, warnings_of};
 use word36::{Address, Image};
 
-/// Assembles sources, tells what is wrong with each that is refused, and gives the programs where
-/// none is.
+/// Assembles sources and gives their programs. Reports what is wrong with each source that is refused; then there are
+/// none.
 pub fn assemble_all<'a>(
     sources: &[Source<'a>],
     errors: &mut PendingText,
@@ -51,7 +51,7 @@ fn refusal_text(refusal: RefusedEvent) -> &'static str {
     }
 }
 
-/// Logs a job in at a line, and starts it; gives its number, or why it is refused.
+/// Logs a job in at a terminal line, and starts it. Gives its number, or why it is refused.
 fn log_in(machine: &mut Machine, line: u8, image: &Image) -> Result<u8, RefusedEvent> {
     match machine.event(&Event::Login(line, image)) {
         Answer::JobNumber(number) => {
@@ -63,11 +63,11 @@ fn log_in(machine: &mut Machine, line: u8, image: &Image) -> Result<u8, RefusedE
     }
 }
 
-/// The job of a program, which has this number and has run no step.
+/// The job of a program: it has this number, and ran no step yet.
 fn job_of(program: Program<'_>, number: u8, terminal: Terminal) -> RunningJob {
     let start = Address::try_new(program.image.start).unwrap_or(Address::new(0));
     RunningJob {
-        told: ToldJob {
+        traced: TracedJob {
             number,
             places: program.places,
             last: start,
@@ -78,15 +78,16 @@ fn job_of(program: Program<'_>, number: u8, terminal: Terminal) -> RunningJob {
     }
 }
 
-/// Tells why a program cannot be logged in.
-fn tell_refusal(file: &str, refusal: RefusedEvent, errors: &mut PendingText) {
+/// Reports why a program cannot be logged in.
+fn report_refusal(file: &str, refusal: RefusedEvent, errors: &mut PendingText) {
     errors.say(file);
     errors.say(": ");
     errors.say(refusal_text(refusal));
     errors.end_line();
 }
 
-/// Logs programs in, at lines from 0 on, and adds their jobs; false where one is refused, which is told.
+/// Logs programs in, at the terminal lines from 0 on, and adds their jobs; false where one is refused, which is
+/// reported.
 pub fn log_in_all(
     machine: &mut Machine,
     programs: Vec<Program<'_>>,
@@ -104,7 +105,7 @@ pub fn log_in_all(
                 }
             }
             Err(refusal) => {
-                tell_refusal(program.file, refusal, errors);
+                report_refusal(program.file, refusal, errors);
                 return false;
             }
         }

@@ -1,34 +1,34 @@
-//! What is told of a run while it goes on.
+//! What is reported of a run while it goes on.
 
-use crate::asked::Asked;
 use crate::history::History;
 use crate::jobs::RunningJob;
-use crate::looks::Look;
-use crate::pending_text::PendingText;
+use crate::next_steps::NextStep;
+use crate::options::Options;
+use concrete_machine::Machine;
 use ka_isa::{Family, classify, decode};
 use lock_queue::Request;
 use monitor::JobView;
-use concrete_machine::Machine;
+use program_shell::PendingText;
 use run_notes::{
-    Snapshot, ToldJob, WaitClocks, call_line, circle_line, circle_of, grant_lines, limit_line,
+    Snapshot, TracedJob, WaitClocks, call_line, circle_line, circle_of, grant_lines, limit_line,
     step_line, time_limit_line,
 };
 use std::alloc::{AllocError, Global};
 
-/// What is told of a run while it goes on.
+/// What is reported of a run while it goes on.
 #[derive(Drop)]
 pub struct Notes {
-    /// Whether each step is told.
+    /// Whether each step is reported.
     trace: bool,
-    /// Whether lock calls and grants are told.
+    /// Whether lock calls and grants are reported.
     locks: bool,
     /// Whether the last steps of each job are kept.
     history: bool,
-    /// How long requests wait, where that is told.
+    /// The clocks of waits, if waits are reported.
     clocks: Option<WaitClocks>,
-    /// The requests for locks, as they were looked at last.
+    /// The requests for locks, as they were when they were last copied.
     requests: Vec<Request>,
-    /// What is kept of the jobs, by number from 1 on, where something is told of their steps.
+    /// A row for each job, by number from 1 on; none where nothing is reported of steps.
     jobs: Vec<JobNotes>,
 }
 
@@ -36,12 +36,12 @@ pub struct Notes {
 #[derive(Drop)]
 struct JobNotes {
     /// What it does next.
-    look: Look,
+    next_step: NextStep,
     /// Its last steps.
     history: History,
 }
 
-/// Whether a step may have changed the requests for locks: it was a call, or its job goes on no longer.
+/// Whether a step may have changed the requests for locks: it was a call, or it stopped or ended its job.
 fn may_change_requests(machine: &Machine, number: u8, before: &Snapshot) -> bool {
     if classify(decode(before.executed).op) == Family::Calli {
         return true;
@@ -52,19 +52,31 @@ fn may_change_requests(machine: &Machine, number: u8, before: &Snapshot) -> bool
     }
 }
 
-/// Tells of a job's lock call, if its turn was one.
-fn tell_call(machine: &Machine, tick: u64, number: u8, look: &Look, errors: &mut PendingText) {
-    if let Some(call) = &look.call {
-        if !look.snapshot.is_interrupted(machine, number) {
-            let line = call_line(errors.alloc, machine, tick, number, &look.snapshot, call);
+/// Reports a job's lock call, if its turn was one.
+fn report_call(
+    machine: &Machine,
+    tick: u64,
+    number: u8,
+    next_step: &NextStep,
+    errors: &mut PendingText,
+) {
+    if let Some(call) = &next_step.call {
+        if !next_step.snapshot.is_interrupted(machine, number) {
+            let line = call_line(
+                errors.alloc,
+                machine,
+                tick,
+                number,
+                &next_step.snapshot,
+                call,
+            );
             errors.say_made(line);
         }
     }
 }
 
-/// Tells of the circle of waits that a job, which waits for locks since this step, has closed, if it
-/// has closed one.
-pub fn tell_circle(machine: &Machine, tick: u64, number: u8, errors: &mut PendingText) {
+/// Reports the circle of waits that a job closed in this step, in which it began to wait for locks; if it closed one.
+pub fn report_circle(machine: &Machine, tick: u64, number: u8, errors: &mut PendingText) {
     let alloc = errors.alloc;
     match circle_of(alloc, machine, number) {
         Ok(Some(circle)) => errors.say_made(circle_line(alloc, tick, machine, circle.as_slice())),
@@ -74,17 +86,17 @@ pub fn tell_circle(machine: &Machine, tick: u64, number: u8, errors: &mut Pendin
 }
 
 impl JobNotes {
-    /// Tells of a job's step, or keeps it among the last where steps are not told.
+    /// Reports a job's step, or keeps it among the last where steps are not reported.
     fn note_step(
         &mut self,
         machine: &Machine,
         tick: u64,
-        job: &ToldJob,
-        is_told: bool,
+        job: &TracedJob,
+        is_reported: bool,
         errors: &mut PendingText,
     ) {
-        let line = step_line(errors.alloc, machine, tick, job, &self.look.snapshot);
-        if is_told {
+        let line = step_line(errors.alloc, machine, tick, job, &self.next_step.snapshot);
+        if is_reported {
             errors.say_made(line);
             return;
         }
@@ -99,41 +111,41 @@ impl JobNotes {
 }
 
 impl Notes {
-    /// What is asked for is told; nothing was seen yet.
-    pub fn new(alloc: Global, asked: &Asked<'_>) -> Self {
-        let clocks = match asked.waits {
+    /// Notes that report what the options ask for; nothing was seen yet.
+    pub fn new(alloc: Global, options: &Options<'_>) -> Self {
+        let clocks = match options.waits {
             Some(most) => Some(WaitClocks::new(alloc, most)),
             None => None,
         };
         Notes {
-            trace: asked.trace,
-            locks: asked.locks,
-            history: asked.history > 0,
+            trace: options.trace,
+            locks: options.locks,
+            history: options.history > 0,
             clocks,
             requests: Vec::new(alloc),
             jobs: Vec::new(alloc),
         }
     }
 
-    /// Whether the requests for locks are looked at.
-    fn looks_at_requests(&self) -> bool {
+    /// Whether the requests for locks are watched.
+    fn watches_requests(&self) -> bool {
         self.locks || self.clocks.is_some()
     }
 
-    /// Looks at all jobs, of which none has run, where something is told or drawn of their steps.
-    pub fn look_at_all(
+    /// Takes down what each job does next, where steps are reported or drawn. None has run yet.
+    pub fn prepare_all(
         &mut self,
         alloc: Global,
         machine: &Machine,
         jobs: &[RunningJob],
-        asked: &Asked<'_>,
+        options: &Options<'_>,
     ) -> Result<(), AllocError> {
-        let is_told = self.trace || self.history || self.looks_at_requests();
-        if is_told || asked.picture.is_some() {
+        let is_reported = self.trace || self.history || self.watches_requests();
+        if is_reported || options.picture.is_some() {
             for job in jobs {
-                let look = Look::at(alloc, machine, &job.told, self.locks)?;
-                let history = History::new(alloc, asked.history);
-                self.jobs.push(JobNotes { look, history })?;
+                let next_step = NextStep::of(alloc, machine, &job.traced, self.locks)?;
+                let history = History::new(alloc, options.history);
+                self.jobs.push(JobNotes { next_step, history })?;
             }
         }
         Ok(())
@@ -144,24 +156,24 @@ impl Notes {
         self.jobs.get_mut(usize::from(number).saturating_sub(1))
     }
 
-    /// Looks at what a job does next.
-    pub fn look_at(&mut self, machine: &Machine, job: &ToldJob, errors: &mut PendingText) {
+    /// Takes down what a job does next.
+    pub fn prepare(&mut self, machine: &Machine, job: &TracedJob, errors: &mut PendingText) {
         let with_calls = self.locks;
         if let Some(notes) = self.notes_of(job.number) {
-            match Look::at(errors.alloc, machine, job, with_calls) {
-                Ok(look) => notes.look = look,
+            match NextStep::of(errors.alloc, machine, job, with_calls) {
+                Ok(next_step) => notes.next_step = next_step,
                 Err(_) => errors.fail(),
             }
         }
     }
 
-    /// Tells of a turn of a job, as it was looked at before, and says whether the requests for locks may
-    /// have changed in it, where that is looked at.
-    pub fn tell_turn(
+    /// Reports a turn of a job, by what was taken down before it. Says whether the requests for locks may have
+    /// changed in it; false where nothing is taken down.
+    pub fn report_turn(
         &mut self,
         machine: &Machine,
         tick: u64,
-        job: &ToldJob,
+        job: &TracedJob,
         errors: &mut PendingText,
     ) -> bool {
         let (trace, history, locks) = (self.trace, self.history, self.locks);
@@ -172,13 +184,19 @@ impl Notes {
             notes.note_step(machine, tick, job, trace, errors);
         }
         if locks {
-            tell_call(machine, tick, job.number, &notes.look, errors);
+            report_call(machine, tick, job.number, &notes.next_step, errors);
         }
-        may_change_requests(machine, job.number, &notes.look.snapshot)
+        may_change_requests(machine, job.number, &notes.next_step.snapshot)
     }
 
-    /// Tells of a job whose wait for locks has ended with its limit of time: how it stands now.
-    pub fn tell_limit(&self, tick: u64, job: &ToldJob, after: &JobView, errors: &mut PendingText) {
+    /// Reports that a job's wait for locks ended with its time limit. `after` is how it stands now.
+    pub fn report_limit(
+        &self,
+        tick: u64,
+        job: &TracedJob,
+        after: &JobView,
+        errors: &mut PendingText,
+    ) {
         let alloc = errors.alloc;
         if self.trace {
             errors.say_made(time_limit_line(alloc, tick, job, after));
@@ -189,9 +207,9 @@ impl Notes {
         }
     }
 
-    /// Tells of the grants that were made since the requests were looked at last, which may have changed.
-    pub fn tell_grants(&mut self, machine: &Machine, tick: u64, errors: &mut PendingText) {
-        if !self.looks_at_requests() {
+    /// Reports the grants since the requests were last copied, and copies them anew.
+    pub fn report_grants(&mut self, machine: &Machine, tick: u64, errors: &mut PendingText) {
+        if !self.watches_requests() {
             return;
         }
         let alloc = errors.alloc;
@@ -209,25 +227,25 @@ impl Notes {
         self.requests = requests;
     }
 
-    /// Tells of jobs that wait for locks for longer than is to be told.
-    pub fn tell_overdue(&mut self, machine: &Machine, tick: u64, errors: &mut PendingText) {
+    /// Reports jobs that wait for locks for longer than the options say.
+    pub fn report_overdue(&mut self, machine: &Machine, tick: u64, errors: &mut PendingText) {
         if let Some(clocks) = &mut self.clocks {
             let requests = self.requests.as_slice();
             errors.say_made(clocks.overdue(errors.alloc, tick, machine, requests));
         }
     }
 
-    /// Tells how long requests waited, by lock.
-    pub fn tell_table(&mut self, tick: u64, errors: &mut PendingText) {
+    /// Reports the table of waits by lock.
+    pub fn report_table(&mut self, tick: u64, errors: &mut PendingText) {
         if let Some(clocks) = &mut self.clocks {
             errors.say_made(clocks.table(errors.alloc, tick, self.requests.as_slice()));
         }
     }
 
-    /// Tells the last steps of a job, where these are kept.
-    pub fn tell_history(&mut self, number: u8, errors: &mut PendingText) {
+    /// Reports the last steps of a job, where they are kept.
+    pub fn report_history(&mut self, number: u8, errors: &mut PendingText) {
         if let Some(notes) = self.notes_of(number) {
-            notes.history.tell(errors);
+            notes.history.report(errors);
         }
     }
 }

@@ -1,13 +1,13 @@
 //! The picture of a run.
 
-use lock_svg::RunCourse;
 use concrete_machine::Machine;
+use lock_svg::RunCourse;
 use std::alloc::{AllocError, Global};
 
 /// The picture of a run, where one is asked for.
 #[derive(Drop)]
 pub struct Picture {
-    /// What was seen of the locks, where that is drawn.
+    /// What was seen of the locks, if it is drawn.
     course: Option<RunCourse>,
     /// Whether the locks may have changed since they were drawn last.
     pub may_differ: bool,

@@ -1,28 +1,32 @@
 //! The whole program.
-ghost use Rattle.std.specs.Prelude.{◌≡◌, ◌≢◌, false};
 
-use crate::asked::Asked;
-use crate::host::{Host, Stream};
-use crate::pending_text::PendingText;
+use crate::arguments::read_arguments;
+use crate::host::{Host, Stream, write_pending};
+use crate::options::Options;
 use crate::running::run_jobs;
 use crate::session::Session;
-use crate::words::read_words;
-use program_shell::{Answers, Failure};
-use run_facts::{DONE, FAILED, REFUSED, USAGE};
 use concrete_machine::Machine;
-use program_shell::Refusal;
-use script_io::ByteOut;
+use program_shell::{
+    DONE, FAILED, Failure, FailureLines, PendingText, REFUSED, Refusal, USAGE, refusal_text,
+};
 use source_labels::Source;
-use std::alloc::{AllocError, Global};
-use std::io::{self, ErrorKind};
+use std::alloc::Global;
+use std::io;
 
-/// Tells what went wrong with a file.
-fn tell_error(head: &str, file: &str, error: io::Error, errors: &mut PendingText) {
+/// The lines by which the program reports a failure.
+pub const FAILURE_LINES: FailureLines = FailureLines {
+    read: b"ten: the input cannot be read\n",
+    write: b"ten: the output cannot be written\n",
+    memory: b"ten: there is no memory\n",
+};
+
+/// Reports that a file cannot be read or written.
+fn report_error(head: &str, file: &str, error: io::Error, errors: &mut PendingText) {
     let alloc = errors.alloc;
     errors.say_made(format!(in alloc; "ten: {head}{file}: {error}\n"));
 }
 
-/// Reads all sources; false where one cannot be read, which is told of the first.
+/// Reads all sources; false at the first that cannot be read, which is reported.
 fn read_sources<'a, H: Host>(
     host: &H,
     files: &[&'a str],
@@ -37,7 +41,7 @@ fn read_sources<'a, H: Host>(
                 }
             }
             Err(error) => {
-                tell_error("", file, error, errors);
+                report_error("", file, error, errors);
                 return false;
             }
         }
@@ -45,8 +49,8 @@ fn read_sources<'a, H: Host>(
     true
 }
 
-/// Writes the picture of a run that had this status to a file, and gives the status, or tells why it
-/// cannot be written.
+/// Writes the picture of a run that had this status to a file, and gives the status; or reports why it cannot be
+/// written, and gives `FAILED`.
 fn write_picture<H: Host>(
     host: &mut H,
     file: &str,
@@ -57,48 +61,43 @@ fn write_picture<H: Host>(
     match host.write_file(file, picture.as_bytes()) {
         Ok(()) => Ok(status),
         Err(error) => {
-            tell_error("the picture cannot be written: ", file, error, errors);
-            errors.write_to(host, Stream::Errors).and(Ok(FAILED))
+            report_error("the picture cannot be written: ", file, error, errors);
+            write_pending(host, Stream::Errors, errors).and(Ok(FAILED))
         }
     }
 }
 
-/// Says why the words were refused, or on the output the help or the version that they asked for.
-fn tell_refusal<H: Host>(alloc: Global, refusal: Refusal, host: &mut H) -> Result<u8, Failure> {
-    match refusal {
-        Refusal::Memory => Err(Failure::Memory),
-        Refusal::Usage(error) => {
-            let (stream, status) = if error.use_stderr() {
-                (Stream::Errors, USAGE)
-            } else {
-                (Stream::Output, DONE)
-            };
-            let mut text = PendingText::new(alloc);
-            text.say_made(error.to_string(alloc));
-            text.write_to(host, stream).and(Ok(status))
-        }
-    }
+/// Reports why the arguments were refused, or writes the help or the version that they ask for to the output.
+fn report_refusal<H: Host>(alloc: Global, refusal: Refusal, host: &mut H) -> Result<u8, Failure> {
+    let said = refusal_text(alloc, refusal)?;
+    let (stream, status) = if said.is_asked_for {
+        (Stream::Output, DONE)
+    } else {
+        (Stream::Errors, USAGE)
+    };
+    host.write(stream, said.text.as_str().as_bytes())?;
+    Ok(status)
 }
 
-/// Assembles sources, runs a job for each of them, writes the picture of the run where that is asked for,
-/// and gives the exit status.
+/// Assembles sources, runs a job for each of them, writes the picture of the run if it is asked for, and gives the
+/// exit status.
 fn serve_sources<H: Host>(
     host: &mut H,
     session: &mut Session,
     machine: &mut Machine,
     sources: &[Source<'_>],
-    asked: &Asked<'_>,
+    options: &Options<'_>,
 ) -> Result<u8, Failure> {
-    let has_begun = session.begin(machine, sources, asked);
-    session.errors.write_to(host, Stream::Errors)?;
+    let has_begun = session.begin(machine, sources, options);
+    write_pending(host, Stream::Errors, &mut session.errors)?;
     if !has_begun {
         return Ok(REFUSED);
     }
-    let status = run_jobs(host, session, machine, asked)?;
+    let status = run_jobs(host, session, machine, options)?;
     let Ok(svg) = session.take_svg(machine) else {
         return Err(Failure::Memory);
     };
-    match (asked.picture, svg) {
+    match (options.picture, svg) {
         (Some(file), Some(svg)) => {
             let errors = &mut session.errors;
             write_picture(host, file, svg.as_str(), status, errors)
@@ -107,24 +106,24 @@ fn serve_sources<H: Host>(
     }
 }
 
-/// Reads the sources that are asked for and runs them, and gives the exit status.
-fn serve_asked<H: Host>(alloc: Global, asked: &Asked<'_>, host: &mut H) -> Result<u8, Failure> {
-    let Ok(mut machine) = Machine::boot(alloc, asked.config) else {
+/// Reads the sources that the options name, runs them, and gives the exit status.
+fn serve<H: Host>(alloc: Global, options: &Options<'_>, host: &mut H) -> Result<u8, Failure> {
+    let Ok(mut machine) = Machine::boot(alloc, options.config) else {
         return Err(Failure::Memory);
     };
-    let mut session = Session::new(alloc, asked);
+    let mut session = Session::new(alloc, options);
     let mut sources = Vec::new(alloc);
-    let files = asked.files.as_slice();
+    let files = options.files.as_slice();
     let are_read = read_sources(host, files, &mut sources, &mut session.errors);
-    let told = session.errors.write_to(host, Stream::Errors);
-    let served = match told {
+    let reported = write_pending(host, Stream::Errors, &mut session.errors);
+    let served = match reported {
         Err(failure) => Err(failure),
         Ok(()) if are_read => serve_sources(
             host,
             &mut session,
             &mut machine,
             sources.as_slice(),
-            asked,
+            options,
         ),
         Ok(()) => Ok(FAILED),
     };
@@ -132,47 +131,19 @@ fn serve_asked<H: Host>(alloc: Global, asked: &Asked<'_>, host: &mut H) -> Resul
     served
 }
 
-/// What went wrong, in a line.
-fn failure_line(alloc: Global, failure: Failure) -> Result<String, AllocError> {
-    format!(in alloc; "ten: {failure}\n")
-}
-
-/// Does what the words, which begin with the program's name, ask for, and gives the exit status:
-/// reads files, assembles them and runs them. Input is read only when a job waits for it. A picture that
-/// is asked for is written behind the run. The help and the version go to the output, and then nothing is
-/// run.
-pub fn ten<H: Host>(alloc: Global, words: &[String], host: &mut H) -> u8 {
-    let served = match read_words(alloc, words) {
-        Ok(asked) => serve_asked(alloc, &asked, host),
-        Err(refusal) => tell_refusal(alloc, refusal, host),
+/// Does what the arguments, which begin with the program's name, ask for, and gives the exit status: reads files,
+/// assembles them and runs them. Input is read only when a job waits for it. A picture that is asked for is written
+/// behind the run. The help and the version go to the output, and then nothing is run.
+pub fn ten<H: Host>(alloc: Global, arguments: &[String], host: &mut H) -> u8 {
+    let served = match read_arguments(alloc, arguments) {
+        Ok(options) => serve(alloc, &options, host),
+        Err(refusal) => report_refusal(alloc, refusal, host),
     };
     match served {
         Ok(status) => status,
         Err(failure) => {
-            if let Ok(text) = failure_line(alloc, failure) {
-                let _ = host.write(Stream::Errors, text.as_str().as_bytes());
-            }
+            let _ = host.write(Stream::Errors, FAILURE_LINES.of(failure));
             FAILED
         }
-    }
-}
-
-/// Says why the words of the command line, or the input, could not be taken, and gives the exit status: one
-/// of the words is no text, which refuses them, or there was no memory.
-pub fn not_begun<E: ByteOut + Drop>(alloc: Global, kind: ErrorKind, errors: E) -> u8
-    requires { E.has_failed errors ≡ false }
-    ensures no_text { kind ≡ ErrorKind.InvalidData → result ≡ USAGE }
-    ensures no_memory { kind ≢ ErrorKind.InvalidData → result ≡ FAILED }
-{
-    let mut errors = Answers::new(errors);
-    if kind == ErrorKind::InvalidData {
-        let text = b"error: invalid UTF-8 was detected in one or more arguments\n";
-        let _ = errors.write(text);
-        USAGE
-    } else {
-        if let Ok(text) = failure_line(alloc, Failure::Memory) {
-            let _ = errors.write(text.as_str().as_bytes());
-        }
-        FAILED
     }
 }

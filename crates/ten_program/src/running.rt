@@ -1,12 +1,12 @@
 //! Jobs that are run.
 
-use crate::asked::Asked;
-use crate::host::{Host, Stream};
+use crate::host::{Host, Stream, write_pending};
+use crate::options::Options;
 use crate::session::Session;
-use program_shell::Failure;
 use concrete_machine::Machine;
+use program_shell::Failure;
 
-/// Types lines of the input as long as jobs wait for characters, and lines come.
+/// Types lines of the input as long as jobs wait for characters and lines come.
 fn type_awaited<H: Host>(
     host: &mut H,
     session: &mut Session,
@@ -18,9 +18,9 @@ fn type_awaited<H: Host>(
         if !typing.wants_line(machine, jobs) {
             break;
         }
-        let came = host.next_line(&mut typing.text)?;
+        let has_come = host.next_line(&mut typing.text)?;
         typing.has_ended = host.has_ended();
-        if !came {
+        if !has_come {
             break;
         }
         if typing.begin(machine, jobs).is_err() {
@@ -30,7 +30,7 @@ fn type_awaited<H: Host>(
     Ok(())
 }
 
-/// Makes at most so many steps, until no job goes on, and says whether it ended since it made them all.
+/// Makes at most so many steps, until no job goes on. True where it made them all.
 fn run<H: Host>(
     host: &mut H,
     session: &mut Session,
@@ -41,31 +41,28 @@ fn run<H: Host>(
     for _ in 0..most {
         type_awaited(host, session, machine)?;
         let turn = session.step(machine);
-        session.output.write_to(host, Stream::Output)?;
+        write_pending(host, Stream::Output, &mut session.output)?;
         let goes_on = session.end_round(machine, turn);
-        session.errors.write_to(host, Stream::Errors)?;
+        write_pending(host, Stream::Errors, &mut session.errors)?;
         if !goes_on {
             is_cut = false;
             break;
         }
     }
     session.flush();
-    session
-        .output
-        .write_to(host, Stream::Output)
-        .and(Ok(is_cut))
+    write_pending(host, Stream::Output, &mut session.output).and(Ok(is_cut))
 }
 
-/// Runs the jobs of a session, tells how each ended, and gives the exit status.
+/// Runs the jobs of a session, reports how each ended, and gives the exit status.
 pub fn run_jobs<H: Host>(
     host: &mut H,
     session: &mut Session,
     machine: &mut Machine,
-    asked: &Asked<'_>,
+    options: &Options<'_>,
 ) -> Result<u8, Failure> {
-    let ran = run(host, session, machine, asked.steps);
+    let ran = run(host, session, machine, options.steps);
     let is_cut = matches!(ran, Ok(true));
-    let status = session.tell_ends(machine, asked.files.as_slice(), is_cut);
-    session.errors.write_to(host, Stream::Errors)?;
+    let status = session.report_ends(machine, options.files.as_slice(), is_cut);
+    write_pending(host, Stream::Errors, &mut session.errors)?;
     ran.and(Ok(status))
 }

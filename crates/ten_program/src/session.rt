@@ -1,17 +1,17 @@
-//! A run of programs: its jobs, and what is typed, told and drawn.
+//! A run of programs: its jobs, and what is typed, reported and drawn.
 
-use crate::asked::Asked;
 use crate::jobs::{RunningJob, standing_of};
 use crate::loading::{assemble_all, log_in_all};
-use crate::notes::{Notes, tell_circle};
-use crate::pending_text::PendingText;
+use crate::notes::{Notes, report_circle};
+use crate::options::Options;
 use crate::picture::Picture;
 use crate::terminal::Terminal;
 use crate::typing::Typing;
 use crate::waits::Waits;
-use monitor::{Answer, Event};
-use run_facts::{Ending, has_ended_well, status_of};
 use concrete_machine::Machine;
+use monitor::{Answer, Event};
+use program_shell::PendingText;
+use run_facts::{Ending, has_ended_well, status_of};
 use run_notes::has_circle;
 use source_labels::Source;
 use std::alloc::{AllocError, Global};
@@ -20,10 +20,10 @@ use word36::{Image, OUTPUT_RING, TAKEN_AT_ONCE};
 /// A step, and the tick behind it.
 const ROUND: [Event<'static>; 2] = [Event::Step, Event::Tick];
 
-/// So many Take events empty an output ring that is full.
+/// How many Take events empty an output ring that is full.
 const MOST_TAKES: usize = OUTPUT_RING / TAKEN_AT_ONCE + 1;
 
-/// A run of programs: its jobs, and what is typed, told and drawn. The machine stands beside it.
+/// A run of programs: its jobs, and what is typed, reported and drawn. The machine stands beside it.
 #[derive(Drop)]
 pub struct Session {
     /// The jobs, by number from 1 on.
@@ -32,13 +32,13 @@ pub struct Session {
     pub typing: Typing,
     /// What they have typed out.
     pub output: PendingText,
-    /// What is told.
+    /// What is reported and not yet written.
     pub errors: PendingText,
-    /// Whether a job may wait for locks with a limit of time.
+    /// Whether a job may wait for locks with a time limit.
     is_limited: bool,
     /// How many ticks went by.
     ticks: u64,
-    /// What is told of the run while it goes on.
+    /// What is reported of the run while it goes on.
     notes: Notes,
     /// What is drawn of it.
     picture: Picture,
@@ -70,8 +70,8 @@ fn take_output(machine: &mut Machine, terminal: &mut Terminal, output: &mut Pend
 }
 
 impl Session {
-    /// A run of which is told and drawn what is asked for, and that has no jobs yet.
-    pub fn new(alloc: Global, asked: &Asked<'_>) -> Self {
+    /// A run without jobs, of which the options say what is reported and drawn.
+    pub fn new(alloc: Global, options: &Options<'_>) -> Self {
         Session {
             jobs: Vec::new(alloc),
             typing: Typing::new(alloc),
@@ -79,20 +79,20 @@ impl Session {
             errors: PendingText::new(alloc),
             is_limited: false,
             ticks: 0,
-            notes: Notes::new(alloc, asked),
-            picture: Picture::new(alloc, asked.picture.is_some()),
+            notes: Notes::new(alloc, options),
+            picture: Picture::new(alloc, options.picture.is_some()),
         }
     }
 
-    /// Ends the run, and gives back the memory that it and its machine have.
+    /// Ends the run, and frees its memory and its machine's.
     pub fn end(self, _machine: Machine) {}
 
-    /// Assembles sources, and logs a job in for each of them; false where one is refused, which is told.
+    /// Assembles sources, and logs a job in for each; false where one is refused, which is reported.
     pub fn begin(
         &mut self,
         machine: &mut Machine,
         sources: &[Source<'_>],
-        asked: &Asked<'_>,
+        options: &Options<'_>,
     ) -> bool {
         let Some(programs) = assemble_all(sources, &mut self.errors) else {
             return false;
@@ -101,13 +101,17 @@ impl Session {
             return false;
         }
         let (alloc, jobs) = (self.errors.alloc, self.jobs.as_slice());
-        if self.notes.look_at_all(alloc, machine, jobs, asked).is_err() {
+        if self
+            .notes
+            .prepare_all(alloc, machine, jobs, options)
+            .is_err()
+        {
             self.errors.fail();
         }
         true
     }
 
-    /// Makes a step, and gives whose turn it was; what that job has typed out is to be written then.
+    /// Makes a step, and gives whose turn it was. What that job typed out is in `output`, to be written now.
     pub fn step(&mut self, machine: &mut Machine) -> Option<Turn> {
         match machine.event(&ROUND[0]) {
             Answer::Ran(number) => Some(self.note_step(machine, number)),
@@ -125,9 +129,9 @@ impl Session {
             return turn;
         };
         job.steps = job.steps.saturating_add(1);
-        job.told.last = job.told.next;
+        job.traced.last = job.traced.next;
         if let Some(view) = machine.job(number) {
-            job.told.next = view.pc;
+            job.traced.next = view.pc;
             turn.waits = Waits::of(&view);
         }
         self.typing.is_awaited |= turn.waits.input;
@@ -139,10 +143,10 @@ impl Session {
         turn
     }
 
-    /// Tells of the turn behind a step, and has a tick go by; false where no job can go on.
+    /// Reports the turn of a step, and lets a tick go by; false where no job can go on.
     pub fn end_round(&mut self, machine: &mut Machine, turn: Option<Turn>) -> bool {
         match turn {
-            Some(turn) => self.tell_turn(machine, turn),
+            Some(turn) => self.report_turn(machine, turn),
             None => {
                 if !self.can_go_on(machine) {
                     return false;
@@ -159,84 +163,87 @@ impl Session {
             self.note_limits(machine);
         }
         self.notes
-            .tell_overdue(machine, self.ticks, &mut self.errors);
+            .report_overdue(machine, self.ticks, &mut self.errors);
         true
     }
 
-    /// Tells of a job's turn, and looks at what it does next.
-    fn tell_turn(&mut self, machine: &Machine, turn: Turn) {
+    /// Reports a job's turn, and takes down what it does next.
+    fn report_turn(&mut self, machine: &Machine, turn: Turn) {
         let tick = self.ticks;
         if let Some(job) = self.jobs.get(usize::from(turn.job).saturating_sub(1)) {
-            let told = &job.told;
-            let may_differ = self.notes.tell_turn(machine, tick, told, &mut self.errors);
-            self.notes.look_at(machine, told, &mut self.errors);
+            let traced = &job.traced;
+            let may_differ = self
+                .notes
+                .report_turn(machine, tick, traced, &mut self.errors);
+            self.notes.prepare(machine, traced, &mut self.errors);
             if may_differ {
-                self.tell_grants(machine);
+                self.report_grants(machine);
             }
         }
         if turn.waits.locks {
-            tell_circle(machine, tick, turn.job, &mut self.errors);
+            report_circle(machine, tick, turn.job, &mut self.errors);
         }
     }
 
-    /// The requests for locks may have changed: tells of grants, and has the locks drawn anew.
-    fn tell_grants(&mut self, machine: &Machine) {
+    /// The requests for locks may have changed: reports grants, and has the locks drawn anew.
+    fn report_grants(&mut self, machine: &Machine) {
         self.picture.may_differ = true;
         self.notes
-            .tell_grants(machine, self.ticks, &mut self.errors);
+            .report_grants(machine, self.ticks, &mut self.errors);
     }
 
-    /// A tick went by while jobs wait for locks with limits of time: tells of those whose limit ended,
-    /// which a tick sets back to the error return of their call, and looks at what they do next.
+    /// A tick went by while jobs wait for locks with time limits: reports the jobs whose limit ended, which the
+    /// tick set back to the error return of their call, and takes down what they do next.
     fn note_limits(&mut self, machine: &Machine) {
         let (mut are_limited, mut has_ended) = (false, false);
         for job in self.jobs.as_mut_slice().iter_mut() {
-            let Some(view) = machine.job(job.told.number) else {
+            let Some(view) = machine.job(job.traced.number) else {
                 continue;
             };
             are_limited |= Waits::of(&view).limit;
-            if view.pc != job.told.next {
+            if view.pc != job.traced.next {
                 has_ended = true;
-                job.told.next = view.pc;
-                let (told, errors) = (&job.told, &mut self.errors);
-                self.notes.tell_limit(self.ticks, told, &view, errors);
-                self.notes.look_at(machine, told, errors);
+                job.traced.next = view.pc;
+                let (traced, errors) = (&job.traced, &mut self.errors);
+                self.notes.report_limit(self.ticks, traced, &view, errors);
+                self.notes.prepare(machine, traced, errors);
             }
         }
         self.is_limited = are_limited;
         if has_ended {
-            self.tell_grants(machine);
+            self.report_grants(machine);
         }
     }
 
-    /// Whether the machine, of which no job is ready, can go on: a job sleeps, or waits for locks with a
-    /// limit of time, or waits for characters of which more may come.
+    /// Whether the machine, of which no job is ready, can go on: a job sleeps, or waits for locks with a time
+    /// limit, or waits for characters of which more may come.
     fn can_go_on(&mut self, machine: &Machine) -> bool {
         let waits = Waits::of_all(machine, self.jobs.as_slice());
         waits.sleep || waits.limit || self.typing.goes_on(waits.input)
     }
 
-    /// Has what there is of lines that are not whole written, and ends them.
+    /// Hands over what there is of lines that are not whole, and ends them.
     pub fn flush(&mut self) {
         for job in self.jobs.as_mut_slice().iter_mut() {
             job.terminal.flush(&mut self.output);
         }
     }
 
-    /// Tells how each job stands, and gives the exit status; the run was cut where it made as many steps
-    /// as it was to make. The files are those of the jobs' sources.
-    pub fn tell_ends(&mut self, machine: &Machine, files: &[&str], is_cut: bool) -> u8 {
+    /// Reports how each job stands, and gives the exit status. `is_cut` where the run made as many steps as it
+    /// was to make; `files` are those of the jobs' sources.
+    pub fn report_ends(&mut self, machine: &Machine, files: &[&str], is_cut: bool) -> u8 {
         if !self.output.is_line_whole() {
             self.errors.end_line();
         }
-        self.notes.tell_table(self.ticks, &mut self.errors);
+        self.notes.report_table(self.ticks, &mut self.errors);
         let mut standings = Vec::new(self.errors.alloc);
         for (job, file) in self.jobs.as_slice().iter().zip(files) {
-            let standing = standing_of(machine, job.told.number);
+            let standing = standing_of(machine, job.traced.number);
             if !has_ended_well(standing) {
-                self.notes.tell_history(job.told.number, &mut self.errors);
+                self.notes
+                    .report_history(job.traced.number, &mut self.errors);
             }
-            job.tell_end(machine, file, standing, &mut self.errors);
+            job.report_end(machine, file, standing, &mut self.errors);
             if standings.push(standing).is_err() {
                 self.errors.fail();
             }
@@ -248,7 +255,7 @@ impl Session {
         status_of(ending, standings.as_slice())
     }
 
-    /// The picture of the run, as SVG, where that is asked for.
+    /// The picture of the run as SVG, if it is asked for.
     pub fn take_svg(&mut self, machine: &Machine) -> Result<Option<String>, AllocError> {
         self.picture
             .take_svg(self.errors.alloc, machine, self.ticks)

@@ -1,25 +1,25 @@
 //! What jobs type out.
 
-use crate::pending_text::PendingText;
 use arrayvec::ArrayVec;
+use program_shell::PendingText;
 use tty_lines::Char7;
 
-/// A line of several terminals that is longer is written in pieces of this length.
+/// With several terminals, a longer line is written in pieces of this length.
 const WIDTH: usize = 256;
 
-/// What a job has typed out at its terminal line, and was not yet written.
+/// A terminal line, with what its job typed out and was not yet written.
 #[derive(Drop)]
 pub struct Terminal {
     /// Its number, 0 to 62.
     pub line: u8,
-    /// Whether each line of the output has this number in front.
+    /// Whether each line is written with this number in front.
     is_numbered: bool,
-    /// The beginning of a line.
+    /// The beginning of a line, which is not whole yet.
     partial: ArrayVec<u8, WIDTH>,
 }
 
 impl Terminal {
-    /// A terminal line where nothing was typed out; it is one of several, or not.
+    /// A terminal line where nothing was typed out. It is one of several, or the only one.
     pub fn new(line: u8, is_numbered: bool) -> Self {
         Terminal {
             line,
@@ -28,7 +28,7 @@ impl Terminal {
         }
     }
 
-    /// Writes characters as they come or, where there are several terminals, line by line.
+    /// Adds characters to the output as they come or, with several terminals, line by line.
     pub fn print(&mut self, text: &[Char7], output: &mut PendingText) {
         for character in text {
             let byte = character.number();
@@ -45,14 +45,14 @@ impl Terminal {
         }
     }
 
-    /// Writes what there is of a line that is not whole, and ends it.
+    /// Adds what there is of a line that is not whole, and ends it.
     pub fn flush(&mut self, output: &mut PendingText) {
         if !self.partial.is_empty() {
             self.end_line(output);
         }
     }
 
-    /// Writes the line, with its number and an end where there are several terminals.
+    /// Adds the line, with its number and an end where there are several terminals.
     fn end_line(&mut self, output: &mut PendingText) {
         if self.is_numbered {
             output.say_number("", u64::from(self.line), ": ");

@@ -5,9 +5,9 @@ ghost use Rattle.run_facts.specs.Typing.{line_for, text_for};
 
 use crate::jobs::RunningJob;
 use crate::waits::Waits;
+use concrete_machine::Machine;
 use monitor::{Answer, Event, RefusedEvent};
 use run_facts::{Target, target_of};
-use concrete_machine::Machine;
 use std::alloc::{AllocError, Global};
 use tty_lines::Char7;
 use word36::{Image, JOBS};
@@ -17,7 +17,7 @@ use word36::{Image, JOBS};
 pub struct Typing {
     /// The line of the input that is being typed.
     pub text: Vec<u8>,
-    /// What of it was not typed yet stands from this place on.
+    /// The position in it from which on it was not yet typed.
     typed: usize,
     /// The terminal line where it is typed.
     line: u8,
@@ -27,8 +27,7 @@ pub struct Typing {
     pub has_ended: bool,
 }
 
-/// Types a byte at a line; false where there is no room for it. A byte that is no character is left
-/// out.
+/// Types a byte at a terminal line; false where there is no room for it. A byte that is no character is left out.
 fn type_byte(machine: &mut Machine, line: u8, byte: u8) -> bool {
     // An event may hold an image, of which this one has none: the prover wants its type to be named.
     let _image: Option<&Image> = None;
@@ -41,7 +40,7 @@ fn type_byte(machine: &mut Machine, line: u8, byte: u8) -> bool {
     }
 }
 
-/// Where a line of the input is typed, by the jobs that there are: each has a terminal line.
+/// The terminal line where a line of the input is typed, by the number of jobs: each has a terminal line.
 fn target_among<'t>(jobs: &[RunningJob], text: &'t [u8]) -> Target<'t>
     ensures line { result.line ≡ line_for (min (length jobs.now) JOBS) text.now }
     ensures text { result.text.now ≡ text_for (min (length jobs.now) JOBS) text.now }
@@ -61,7 +60,7 @@ impl Typing {
         }
     }
 
-    /// Types what there is of the line in hand, as far as there is room for it.
+    /// Types on at the line in hand, as far as there is room for it.
     pub fn type_on(&mut self, machine: &mut Machine) {
         let rest = self.text.len().saturating_sub(self.typed);
         for _ in 0..rest {
@@ -85,7 +84,7 @@ impl Typing {
         self.is_awaited
     }
 
-    /// Types the line of the input that is in hand now, at the terminal line that it names.
+    /// Begins to type `text`, a line of the input without its end, at the terminal line that it names.
     pub fn begin(&mut self, machine: &mut Machine, jobs: &[RunningJob]) -> Result<(), AllocError> {
         self.text.push(b'\n')?;
         let target = target_among(jobs, self.text.as_slice());
@@ -96,8 +95,8 @@ impl Typing {
         Ok(())
     }
 
-    /// No job is ready, and some wait for characters, or none: whether more come. Where what was typed
-    /// elsewhere finds no room, the rest of it is lost.
+    /// No job is ready, and some wait for characters, or none: whether more come. Where what was typed elsewhere
+    /// finds no room, the rest of it is lost.
     pub fn goes_on(&mut self, is_awaited: bool) -> bool {
         self.typed = self.text.len();
         self.is_awaited = is_awaited;

@@ -1,18 +1,18 @@
 //! What jobs wait for.
 
 use crate::jobs::RunningJob;
+use concrete_machine::Machine;
 use job_sched::Wait;
 use monitor::JobView;
-use concrete_machine::Machine;
 
-/// What a job waits for, or what there is among the waits of some jobs.
+/// What a job waits for, or what there is among the waits of several jobs.
 #[derive(Clone, Copy)]
 pub struct Waits {
     /// Characters.
     pub input: bool,
     /// Locks.
     pub locks: bool,
-    /// Locks with a limit of time. That goes down while the job is stopped, too.
+    /// Locks with a time limit. The limit goes down while the job is stopped, too.
     pub limit: bool,
     /// The end of its sleep.
     pub sleep: bool,
@@ -47,7 +47,7 @@ impl Waits {
     pub fn of_all(machine: &Machine, jobs: &[RunningJob]) -> Self {
         let mut all = Waits::NONE;
         for job in jobs {
-            if let Some(view) = machine.job(job.told.number) {
+            if let Some(view) = machine.job(job.traced.number) {
                 let waits = Waits::of(&view);
                 all.input |= waits.input;
                 all.locks |= waits.locks;

@@ -1,5 +1,0 @@
-use Rattle.command_line.proofs.serving.told.Goals as goal
-
--- what `write_all` answered is what the port gave for the text
-pub returns-clause-handed : goal.returns-clause-handed
-returns-clause-handed g c = (c.write_all.result, c.write_all.ensures)

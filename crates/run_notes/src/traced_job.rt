@@ -1,0 +1,27 @@
+//! A job whose steps are reported.
+
+use source_labels::{Places, Spot};
+use word36::Address;
+
+/// A job whose steps are reported.
+#[derive(Drop)]
+pub struct TracedJob {
+    /// Its number, 1 to 63.
+    pub number: u8,
+    /// The labels and the literals of its source.
+    pub places: Places,
+    /// Its PC before its last step.
+    pub last: Address,
+    /// Its PC now.
+    pub next: Address,
+}
+
+impl TracedJob {
+    /// An address of its program, to be written by its labels.
+    pub fn spot(&self, place: Address) -> Spot<'_> {
+        Spot {
+            places: &self.places,
+            place,
+        }
+    }
+}
