@@ -1,4 +1,4 @@
-//! The program: a session of the debugger on sources that its words name.
+//! The program: a session of the debugger on the sources that its arguments name.
 #![tactic(auto)]
 
 mod terminal;
@@ -11,17 +11,17 @@ use std::env;
 use std::io::{self, ErrorKind, IsTerminal};
 use std::process::ExitCode;
 
-/// The words of the command line, which begin with the program's name.
-fn words_of(rt: &HostRuntime) -> io::Result<Vec<String>> {
-    let words = env::args(rt)?.collect::<Vec<String>>(rt.alloc())?;
-    Ok(words)
+/// The arguments of the command line, which begin with the program's name.
+fn arguments_of(rt: &HostRuntime) -> io::Result<Vec<String>> {
+    let arguments = env::args(rt)?.collect::<Vec<String>>(rt.alloc())?;
+    Ok(arguments)
 }
 
 fn main(rt: HostRuntime) -> ExitCode {
     let alloc = rt.alloc();
     let errors = HostOut::new(rt.stderr());
-    let words = match words_of(&rt) {
-        Ok(words) => words,
+    let arguments = match arguments_of(&rt) {
+        Ok(arguments) => arguments,
         Err(error) => return ExitCode::from(not_begun(alloc, error.kind(), errors)),
     };
     let Ok(input) = LineReader::new(alloc, HostIn::new(rt.stdin())) else {
@@ -34,5 +34,5 @@ fn main(rt: HostRuntime) -> ExitCode {
         answers: Answers::new(HostOut::new(rt.stdout())),
         errors: Answers::new(errors),
     };
-    ExitCode::from(ddt(alloc, words.as_slice(), &mut terminal))
+    ExitCode::from(ddt(alloc, arguments.as_slice(), &mut terminal))
 }

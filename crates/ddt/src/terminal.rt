@@ -1,7 +1,7 @@
 //! The standard streams and the files of the host.
 
 use ddt_program::{Host, Stream};
-use program_shell::{Answers, Came, Failure, LineReader};
+use program_shell::{Answers, Failure, LineReader, NextLine};
 use script_io::{Failed, HostIn, HostOut, StdReader, StdWriter};
 use std::fs;
 use std::io::{self, Stderr, Stdin, Stdout};
@@ -26,7 +26,7 @@ impl Host for Terminal<'_> {
         self.is_person
     }
 
-    fn next_line(&mut self, line: &mut Vec<u8>) -> Result<Came, Failure> {
+    fn next_line(&mut self, line: &mut Vec<u8>) -> Result<NextLine, Failure> {
         self.input.next_line(line)
     }
 

@@ -1,4 +1,4 @@
-//! What is typed where a job waits for characters: lines of a file, one after the other.
+//! The lines of a file that are typed where a job waits for characters.
 
 use crate::terminals::type_line;
 use ddt_timeline::Timeline;
@@ -7,23 +7,25 @@ use std::alloc::{AllocError, Global};
 
 /// The lines of a file, of which some were typed.
 ///
-/// Which are still to be typed follows from what has happened: where the machine is put back before a
-/// line was typed, that line comes once more.
+/// Which line is next follows from what has happened to the machine: where it is put back before a line was typed, that line
+/// is typed once more.
 #[derive(Drop)]
 pub struct InputLines {
     text: Vec<u8>,
-    /// For each line that was typed, behind how many entries, and where the next line begins.
+    /// The lines that were typed, the first one first.
     typed: Vec<Typed>,
 }
 
 /// A line that was typed.
 #[derive(Clone, Copy)]
 struct Typed {
+    /// How many entries had happened before.
     happened: usize,
+    /// The position of the next line in the text.
     next: usize,
 }
 
-/// What stands before the first LF.
+/// The text before the first LF.
 fn first_line(text: &[u8]) -> &[u8] {
     for (i, byte) in text.iter().enumerate() {
         if *byte == b'\n' {
@@ -33,8 +35,8 @@ fn first_line(text: &[u8]) -> &[u8] {
     text
 }
 
-/// The line that begins at a place, without its LF and a CR before that, and where the next begins;
-/// `None` at the end.
+/// The line that begins at a position of a text, without its LF or CR LF, and the position of the next line; `None` at the end
+/// of the text.
 pub fn line_from(text: &[u8], start: usize) -> Option<(&[u8], usize)> {
     let rest = text.get(start..)?;
     if rest.is_empty() {
@@ -62,7 +64,7 @@ impl InputLines {
         }
     }
 
-    /// Where the next line begins, behind so many entries.
+    /// The position of the next line, where so many entries have happened.
     fn next_start(&self, happened: usize) -> usize {
         let mut start = 0;
         for typed in self.typed.as_slice() {
@@ -73,12 +75,12 @@ impl InputLines {
         start
     }
 
-    /// Whether a line is left, behind so many entries.
+    /// Whether a line is left, where so many entries have happened.
     pub fn is_left(&self, happened: usize) -> bool {
         self.next_start(happened) < self.text.len()
     }
 
-    /// Forgets the lines that were typed behind so many entries and were taken back.
+    /// Forgets the lines that were typed later than so many entries.
     fn forget(&mut self, happened: usize) {
         let mut kept = 0usize;
         for typed in self.typed.as_slice() {
@@ -89,7 +91,7 @@ impl InputLines {
         self.typed.truncate(kept);
     }
 
-    /// Types the next line, where so many terminal lines have jobs; false where none is left.
+    /// Types the next line of the text, where so many terminal lines have jobs; false where none is left.
     pub fn type_next(&mut self, timeline: &mut Timeline, lines: u8) -> Result<bool, AllocError> {
         let happened = timeline.happened();
         let start = self.next_start(happened);

@@ -1,24 +1,25 @@
-//! What the debugger does to the machine: runs up to where they stop, starts, and terminals; and what it
-//! looks for in the steps that were made.
+//! What the debugger does to the machine: runs up to a stop, starts, and terminals; and what it finds in the steps that were made.
 #![tactic(auto)]
 
-mod causes;
+mod ends;
 mod input;
 mod lock_watch;
+mod past_steps;
 mod replays;
+mod run_stops;
 mod runs;
 mod starts;
 mod stop_lists;
 mod terminals;
-mod traces;
 mod turns;
 
-pub use causes::{Cause, Stops, stops_of};
+pub use ends::ended_at;
 pub use input::{InputLines, line_from};
+pub use past_steps::{Turns, last_at, last_turns, last_write};
 pub use replays::Replay;
-pub use runs::{Ended, run_to};
+pub use run_stops::{Cause, RunStops, stops_of};
+pub use runs::{RunEnd, run_to};
 pub use starts::{begin, cause_at_start, go_on, is_stopped, start_jobs};
 pub use stop_lists::{BREAKPOINTS, Breakpoint, StopList, WatchedWord};
 pub use terminals::{take_line, type_line};
-pub use traces::{Turns, last_at, last_turns, last_write};
-pub use turns::turn_at;
+pub use turns::{next_instruction, turn_at};

@@ -1,32 +1,32 @@
-//! Runs that are looked at for calls on a lock, and for grants.
+//! A watch for calls on a lock, and for grants.
 
-use crate::causes::Cause;
+use crate::run_stops::Cause;
 use crate::stop_lists::StopList;
-use crate::turns::{NUMBERS, places_of};
+use crate::turns::{NUMBERS, pcs_of};
+use concrete_machine::Machine;
 use ddt_timeline::Watch;
 use lock_queue::{Name, Request};
 use run_facts::is_new_grant;
-use concrete_machine::Machine;
-use run_notes::{CallLook, snapshot_of};
+use run_notes::{PendingCall, snapshot_of};
 use std::alloc::{AllocError, Global};
 use word36::{Address, JOBS};
 
-/// What a run is looked at for behind each of its rounds.
+/// A watch that ends a run at a grant, or before a call on a lock.
 #[derive(Drop)]
 pub struct LockWatch<'a> {
     alloc: Global,
     list: &'a StopList,
-    /// The requests before the round, where grants are looked at.
+    /// The requests before the round, where runs stop at grants.
     pub requests: Vec<Request>,
-    /// Where each job stood before the round, where calls are looked at.
-    places: [Option<Address>; NUMBERS],
-    /// Why the run ended, if this ended it.
+    /// The PC of each job before the round, where runs stop before calls.
+    pcs: [Option<Address>; NUMBERS],
+    /// Why the run ended, if this watch ended it.
     pub cause: Option<Cause>,
-    /// Whether there was no memory.
+    /// Whether there was too little memory to look.
     pub has_failed: bool,
 }
 
-/// Whether a job stands before a call on a lock of this name.
+/// Whether a job, which is not stopped, stands before a call on a lock of this name.
 fn stands_at_call(
     alloc: Global,
     machine: &Machine,
@@ -36,24 +36,29 @@ fn stands_at_call(
     let Some(view) = machine.job(number) else {
         return Ok(false);
     };
+    if view.stop.is_some() {
+        return Ok(false);
+    }
     let snapshot = snapshot_of(machine, number, view.pc);
-    match CallLook::of(alloc, machine, number, &snapshot)? {
+    match PendingCall::of(alloc, machine, number, &snapshot)? {
         Some(call) => Ok(call.is_on(machine, number, name)),
         None => Ok(false),
     }
 }
 
-/// The first job, of those at so many lines, that stands before a call on the lock at which runs stop.
+/// Why a run does not begin: the first job, of those from `first` to `last`, that stands before a call on the lock of
+/// `.BREAK LOCK`.
 pub(crate) fn first_standing(
     alloc: Global,
     machine: &Machine,
-    lines: u8,
+    first: u8,
+    last: u8,
     list: &StopList,
 ) -> Result<Option<Cause>, AllocError> {
     let Some(name) = &list.lock else {
         return Ok(None);
     };
-    for number in 1..lines.saturating_add(1) {
+    for number in first..last.saturating_add(1) {
         if stands_at_call(alloc, machine, number, name)? {
             return Ok(Some(Cause::Call(number)));
         }
@@ -61,19 +66,19 @@ pub(crate) fn first_standing(
     Ok(None)
 }
 
-/// The first job that came to a call on a lock of this name in a round in which a job ran, where the jobs
-/// stood and stand at these places: it had its turn, or a tick put its PC elsewhere.
+/// The first job that came to a call on a lock of this name in a round in which a job ran: it had its turn, or a tick changed
+/// its PC. `before` has the PC of each job before the round, and `pcs` behind it.
 fn first_caller(
     alloc: Global,
     machine: &Machine,
     name: &Name,
     before: &[Option<Address>; NUMBERS],
-    places: &[Option<Address>; NUMBERS],
+    pcs: &[Option<Address>; NUMBERS],
     ran: Option<u8>,
 ) -> Result<Option<Cause>, AllocError> {
     for number in 1..JOBS + 1 {
-        let at = usize::from(number);
-        let has_come = ran == Some(number) || places[at] != before[at];
+        let slot = usize::from(number);
+        let has_come = ran == Some(number) || pcs[slot] != before[slot];
         if has_come && stands_at_call(alloc, machine, number, name)? {
             return Ok(Some(Cause::Call(number)));
         }
@@ -81,10 +86,10 @@ fn first_caller(
     Ok(None)
 }
 
-/// Whether one of some requests is granted and was not granted before, when these others were present.
+/// Whether one of some requests is granted and was not granted before.
 fn has_new_grant(before: &[Request], requests: &[Request]) -> bool {
-    for place in 0..requests.len() {
-        if is_new_grant(before, requests, place) {
+    for position in 0..requests.len() {
+        if is_new_grant(before, requests, position) {
             return true;
         }
     }
@@ -92,19 +97,19 @@ fn has_new_grant(before: &[Request], requests: &[Request]) -> bool {
 }
 
 impl<'a> LockWatch<'a> {
-    /// Looks at a run that begins here.
+    /// A watch of a run that begins now.
     pub fn new(alloc: Global, machine: &Machine, list: &'a StopList) -> Result<Self, AllocError> {
         Ok(LockWatch {
             alloc,
             list,
             requests: machine.requests(alloc)?,
-            places: places_of(machine),
+            pcs: pcs_of(machine),
             cause: None,
             has_failed: false,
         })
     }
 
-    /// Whether a request was granted in a round; those that there are now are kept where none was.
+    /// Whether a request was granted in a round; where none was, the requests of now are kept.
     fn sees_grant(&mut self, machine: &Machine) -> Result<bool, AllocError> {
         if !self.list.grants {
             return Ok(false);
@@ -122,22 +127,22 @@ impl<'a> LockWatch<'a> {
         if self.sees_grant(machine)? {
             return Ok(Some(Cause::Grant));
         }
-        let places = places_of(machine);
+        let pcs = pcs_of(machine);
         let cause = match &self.list.lock {
-            Some(name) => first_caller(self.alloc, machine, name, &self.places, &places, ran),
+            Some(name) => first_caller(self.alloc, machine, name, &self.pcs, &pcs, ran),
             None => Ok(None),
         };
-        self.places = places;
+        self.pcs = pcs;
         cause
     }
 }
 
 impl Watch for LockWatch<'_> {
-    fn is_asked(&self) -> bool {
+    fn looks_at_rounds(&self) -> bool {
         true
     }
 
-    fn is_met(&mut self, machine: &Machine, ran: Option<u8>) -> bool {
+    fn ends_run(&mut self, machine: &Machine, ran: Option<u8>) -> bool {
         match self.look(machine, ran) {
             Ok(cause) => self.cause = cause,
             Err(_) => self.has_failed = true,

@@ -1,23 +1,25 @@
-//! What has happened to a machine, once more and step by step.
+//! What has happened to a machine, made once more, step by step.
 
-use ddt_timeline::{Entry, Timeline, let_go, perform, round};
 use concrete_machine::Machine;
+use ddt_timeline::{Entry, Timeline, let_go, perform, round};
 use std::alloc::AllocError;
 
-/// A second machine, to which what has happened to another happens once more.
+/// A second machine, to which all happens once more that has happened to that of a timeline.
 #[derive(Drop)]
 pub struct Replay<'a> {
     machine: Machine,
-    /// What is still to happen: whole entries, and so many steps behind them.
+    /// The whole entries that are still to happen.
     entries: &'a [Entry],
+    /// How many steps are still to be made behind them.
     part: u32,
-    /// What is left of the steps of an entry.
+    /// How many steps of the entry at hand are left.
     left: u32,
+    /// How many steps have been made.
     steps: u64,
 }
 
 impl<'a> Replay<'a> {
-    /// A machine at boot, to which what has happened to another is to happen.
+    /// A machine at boot, to which nothing has happened yet.
     pub fn of(timeline: &'a Timeline) -> Result<Self, AllocError> {
         Ok(Replay {
             machine: timeline.boot()?,
@@ -28,7 +30,7 @@ impl<'a> Replay<'a> {
         })
     }
 
-    /// Ends it, and gives back the memory that it has.
+    /// Ends the replay, and gives back its memory.
     pub fn end(self) {
         let_go(self.machine);
     }
@@ -38,12 +40,12 @@ impl<'a> Replay<'a> {
         &self.machine
     }
 
-    /// How many steps were made.
+    /// How many steps have been made.
     pub fn steps(&self) -> u64 {
         self.steps
     }
 
-    /// Takes the next entry, of which steps are left or that happens; false where there is none.
+    /// Takes the next entry: its steps are left, or it happens at once. False where there is none.
     fn next_entry(&mut self) -> bool {
         match self.entries {
             [] => {
@@ -64,7 +66,7 @@ impl<'a> Replay<'a> {
         }
     }
 
-    /// Makes what happens before the next step; false where no step is left.
+    /// Makes all entries happen before the next step; false where no step is left.
     pub fn go_before_step(&mut self) -> bool {
         for _ in 0..u64::MAX {
             if self.left > 0 {
@@ -77,7 +79,7 @@ impl<'a> Replay<'a> {
         false
     }
 
-    /// Makes a step, if one is left: the job that ran, if one did.
+    /// Makes a step, if one is left, and gives the job that ran.
     pub fn step(&mut self) -> Option<u8> {
         if self.left == 0 {
             return None;
@@ -87,7 +89,7 @@ impl<'a> Replay<'a> {
         round(&mut self.machine)
     }
 
-    /// Makes steps until so many were made since the beginning, and what happens between them.
+    /// Makes steps, and what happens between them, until so many have been made since boot or none is left.
     pub fn skip_to(&mut self, steps: u64) {
         for _ in 0..u64::MAX {
             let wanted = steps.saturating_sub(self.steps);

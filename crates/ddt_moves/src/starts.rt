@@ -1,15 +1,14 @@
-//! Jobs that start and go on.
+//! Jobs that are started or continued.
 
-use crate::causes::Cause;
 use crate::lock_watch::first_standing;
+use crate::run_stops::Cause;
 use crate::stop_lists::StopList;
-use crate::traces::stands_at;
-use ddt_timeline::{Entry, Timeline};
-use job_sched::Stop;
 use concrete_machine::Machine;
+use ddt_timeline::{Entry, Timeline, stands_at};
+use job_sched::Stop;
 use std::alloc::AllocError;
 
-/// Whether a job was not started.
+/// Whether a job was not started yet.
 fn is_loaded(machine: &Machine, number: u8) -> bool {
     match machine.job(number) {
         Some(view) => view.stop == Some(Stop::Loaded),
@@ -31,8 +30,8 @@ fn start(timeline: &mut Timeline, number: u8) -> Result<(), AllocError> {
     Ok(())
 }
 
-/// Starts the jobs that were not started, of those at so many lines, or the open one where all were; false
-/// where it is not stopped.
+/// Starts the jobs at the first `lines` terminal lines that were not started yet. Where there is none, it starts the open job;
+/// false where that one is not stopped.
 pub fn start_jobs(timeline: &mut Timeline, lines: u8, open: u8) -> Result<bool, AllocError> {
     let mut any = false;
     for number in 1..lines.saturating_add(1) {
@@ -48,43 +47,46 @@ pub fn start_jobs(timeline: &mut Timeline, lines: u8, open: u8) -> Result<bool, 
     Ok(any)
 }
 
-/// A job goes on, where CTRL-C or EXIT 1 stopped it.
-pub fn go_on(timeline: &mut Timeline, number: u8) -> Result<(), AllocError> {
+/// Continues a job that CTRL-C or EXIT 1 stopped; false where nothing is to be done.
+pub fn go_on(timeline: &mut Timeline, number: u8) -> Result<bool, AllocError> {
     let stop = match timeline.machine().job(number) {
         Some(view) => view.stop,
         None => None,
     };
     if let Some(Stop::Typed | Stop::Monitor) = stop {
         timeline.make(Entry::Continue(number))?;
+        return Ok(true);
     }
-    Ok(())
+    Ok(false)
 }
 
-/// Starts a job that was not started, or lets one go on that CTRL-C or EXIT 1 stopped.
+/// Starts a job that was not started yet, or continues one that CTRL-C or EXIT 1 stopped.
 pub fn begin(timeline: &mut Timeline, number: u8) -> Result<(), AllocError> {
     if is_loaded(timeline.machine(), number) {
         start(timeline, number)
     } else {
-        go_on(timeline, number)
+        go_on(timeline, number).and(Ok(()))
     }
 }
 
-/// Why no step is made where the jobs at so many lines were started just now: one stands at a breakpoint,
-/// or before a call on the lock at which runs stop.
+/// Why a run makes no step where the jobs from `first` to `last` were started or continued just now: one of them stands at a
+/// breakpoint, or before a call on the lock of `.BREAK LOCK`.
 pub fn cause_at_start(
     timeline: &Timeline,
-    lines: u8,
+    first: u8,
+    last: u8,
     list: &StopList,
 ) -> Result<Option<Cause>, AllocError> {
     let machine = timeline.machine();
     for (i, breakpoint) in list.breakpoints.iter().enumerate() {
         if let Some(breakpoint) = breakpoint {
-            let (job, place) = (breakpoint.job, breakpoint.place.number());
-            if stands_at(machine, job, place) {
+            let (job, address) = (breakpoint.job, breakpoint.address);
+            let is_begun = first <= job && job <= last;
+            if is_begun && stands_at(machine, job, address) {
                 let number = i.saturating_add(1);
-                return Ok(Some(Cause::Breakpoint(number, job, place)));
+                return Ok(Some(Cause::Breakpoint(number, job, address.number())));
             }
         }
     }
-    first_standing(timeline.alloc(), machine, lines, list)
+    first_standing(timeline.alloc(), machine, first, last, list)
 }

@@ -1,4 +1,4 @@
-//! Breakpoints and watched words.
+//! The stops that the user sets.
 
 use arrayvec::ArrayVec;
 use lock_queue::Name;
@@ -7,36 +7,36 @@ use word36::Address;
 /// How many breakpoints there are, and how many words can be watched.
 pub const BREAKPOINTS: usize = 8;
 
-/// A place where a job stops.
+/// An address where runs stop when a job comes to it.
 #[derive(Clone, Copy)]
 pub struct Breakpoint {
-    /// The job.
+    /// The number of the job.
     pub job: u8,
-    /// The place.
-    pub place: Address,
+    /// The address.
+    pub address: Address,
 }
 
-/// A word of a job that is watched.
+/// A word that is watched: runs stop where it changes.
 #[derive(Clone, Copy, PartialEq, Eq, Default)]
 pub struct WatchedWord {
-    /// The job.
+    /// The number of the job.
     pub job: u8,
-    /// Its place.
-    pub place: u32,
+    /// The address.
+    pub address: u32,
 }
 
-/// Where runs stop, as it was asked for.
+/// The stops that the user sets.
 #[derive(Drop)]
 pub struct StopList {
-    /// The breakpoints 1 to 8.
+    /// The breakpoints 1 to 8, those that are set.
     pub breakpoints: [Option<Breakpoint>; BREAKPOINTS],
     /// The words that are watched.
     pub words: ArrayVec<WatchedWord, BREAKPOINTS>,
-    /// Whether runs stop where jobs wait in a circle.
+    /// Whether runs stop where jobs wait in a circle: `.BREAK CIRCLE`.
     pub circles: bool,
-    /// The name of the lock before calls on which they stop, if there is one.
+    /// The lock before whose calls runs stop, if there is one: `.BREAK LOCK`.
     pub lock: Option<Name>,
-    /// Whether they stop where a request is granted.
+    /// Whether runs stop where a request is granted: `.BREAK GRANT`.
     pub grants: bool,
 }
 
@@ -52,12 +52,12 @@ impl StopList {
         }
     }
 
-    /// The place among the breakpoints of one that stands there already, or of one that is free.
-    fn free(&self, job: u8, place: Address) -> Option<usize> {
+    /// The slot of the breakpoint that is set at an address of a job, or else the first that is free.
+    fn free(&self, job: u8, address: Address) -> Option<usize> {
         let mut free = None;
         for (i, slot) in self.breakpoints.iter().enumerate() {
             match slot {
-                Some(one) if one.job == job && one.place == place => return Some(i),
+                Some(one) if one.job == job && one.address == address => return Some(i),
                 None if free.is_none() => free = Some(i),
                 _ => {}
             }
@@ -65,22 +65,22 @@ impl StopList {
         free
     }
 
-    /// Sets a breakpoint of a job: that of a number from 1, or one that is free. Gives its number, if
-    /// there is one.
-    pub fn set(&mut self, job: u8, place: Address, number: Option<u8>) -> Option<usize> {
+    /// Sets a breakpoint of a job: the one of a number from 1 to 8, or a free one. Gives its number; `None`, and nothing changes,
+    /// where all are set.
+    pub fn set(&mut self, job: u8, address: Address, number: Option<u8>) -> Option<usize> {
         let at = match number {
             Some(number) => usize::from(number).saturating_sub(1),
-            None => self.free(job, place)?,
+            None => self.free(job, address)?,
         };
         let slot = self.breakpoints.get_mut(at)?;
-        *slot = Some(Breakpoint { job, place });
+        *slot = Some(Breakpoint { job, address });
         Some(at.saturating_add(1))
     }
 
-    /// Takes the breakpoint of a number away; false where it was not set.
+    /// Clears the breakpoint of a number; false where it was not set.
     pub fn unset(&mut self, number: u8) -> bool {
-        let place = usize::from(number).saturating_sub(1);
-        match self.breakpoints.get_mut(place) {
+        let slot = usize::from(number).saturating_sub(1);
+        match self.breakpoints.get_mut(slot) {
             Some(slot) => {
                 let was_set = slot.is_some();
                 *slot = None;
@@ -90,7 +90,8 @@ impl StopList {
         }
     }
 
-    /// Watches a word, or no longer where it is watched: whether it is now. `None` where no more can be.
+    /// Watches a word, or no longer where it is watched; tells whether it is now. `None`, and nothing changes, where 8 words are
+    /// watched already.
     pub fn watch(&mut self, word: WatchedWord) -> Option<bool> {
         let mut words = ArrayVec::new();
         for one in self.words.as_slice() {

@@ -1,4 +1,4 @@
-//! What is typed in and out.
+//! What is typed at the terminals, and what jobs type out.
 
 use ddt_timeline::{Entry, Timeline};
 use monitor::{Answer, RefusedEvent};
@@ -6,10 +6,10 @@ use std::alloc::AllocError;
 use tty_lines::Char7;
 use word36::{OUTPUT_RING, TAKEN_AT_ONCE};
 
-/// So many times a line's output is taken until it is empty, at most.
+/// How many times a line's output is taken, at most, until it is empty.
 const MOST_TAKES: usize = OUTPUT_RING / TAKEN_AT_ONCE + 1;
 
-/// Types a byte at a line, where it is a character; false where there is no room for it.
+/// Types a byte at a line; one above 177 octal is passed over. False where the line has no room.
 fn type_byte(timeline: &mut Timeline, line: u8, byte: u8) -> Result<bool, AllocError> {
     let Some(character) = Char7::try_new(byte) else {
         return Ok(true);
@@ -20,7 +20,7 @@ fn type_byte(timeline: &mut Timeline, line: u8, byte: u8) -> Result<bool, AllocE
     }
 }
 
-/// Types a text and a line end; false where there is no room for all of it.
+/// Types a text and a line end at a line; false where the line has no room for all of it.
 pub fn type_line(timeline: &mut Timeline, line: u8, typed: &[u8]) -> Result<bool, AllocError> {
     for byte in typed {
         if !type_byte(timeline, line, *byte)? {
@@ -30,7 +30,7 @@ pub fn type_line(timeline: &mut Timeline, line: u8, typed: &[u8]) -> Result<bool
     type_byte(timeline, line, b'\n')
 }
 
-/// Takes what stands in the output of a line, and adds it to these bytes.
+/// Takes the output of a line, and adds it to these bytes.
 pub fn take_line(timeline: &mut Timeline, line: u8, bytes: &mut Vec<u8>) -> Result<(), AllocError> {
     for _ in 0..MOST_TAKES {
         let Answer::Text(taken) = timeline.make(Entry::Take(line))? else {

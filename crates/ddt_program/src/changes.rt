@@ -1,15 +1,15 @@
-//! What is changed by hand: words, places where jobs start, time, and what is typed in and out.
+//! Commands that change the machine by hand: words, where jobs start, and what is typed in and out.
 
-use crate::answer_text::AnswerText;
 use crate::runs::run_from_start;
 use crate::session::Session;
-use ddt_lines::Refusal;
+use ddt_commands::Refusal;
 use ddt_moves::{take_line, type_line};
+use ddt_show::AnswerText;
 use ddt_timeline::{Entry, Timeline};
 use monitor::Answer;
 use word36::{Address, Word};
 
-/// A value: it is put in the place that is open, which is closed by that.
+/// A value: deposits it at the open address, and closes that.
 pub fn deposit(session: &mut Session, timeline: &mut Timeline, word: Word) {
     if !session.is_open {
         return session.answer.refuse(Refusal::NotOpen);
@@ -30,26 +30,26 @@ pub fn deposit(session: &mut Session, timeline: &mut Timeline, word: Word) {
     session.last = word;
 }
 
-/// Makes an entry whose answer tells nothing.
+/// Makes an entry happen whose answer is not shown.
 pub fn make(answer: &mut AnswerText, timeline: &mut Timeline, entry: Entry) {
     if timeline.make(entry).is_err() {
         answer.fail();
     }
 }
 
-/// `a$G`: the open job starts at a place, and the machine runs.
-pub fn start_at(session: &mut Session, timeline: &mut Timeline, place: u32) {
-    let Some(place) = Address::try_new(place) else {
+/// `a$G`: starts the open job at an address, and runs.
+pub fn start_at(session: &mut Session, timeline: &mut Timeline, address: u32) {
+    let Some(address) = Address::try_new(address) else {
         return session.answer.refuse(Refusal::NoWord);
     };
-    match timeline.make(Entry::StartAt(session.open, place)) {
+    match timeline.make(Entry::StartAt(session.open, address)) {
         Ok(Answer::Refused(_)) => session.answer.refuse(Refusal::NotStopped),
         Ok(_) => run_from_start(session, timeline),
         Err(_) => session.answer.fail(),
     }
 }
 
-/// `.TYPE line text`: types a text and a line end at a line.
+/// `.TYPE line text`: types a text and a line end at a terminal line.
 pub fn type_at(answer: &mut AnswerText, timeline: &mut Timeline, line: u8, text: &[u8]) {
     match type_line(timeline, line, text) {
         Ok(true) => {}
@@ -58,7 +58,7 @@ pub fn type_at(answer: &mut AnswerText, timeline: &mut Timeline, line: u8, text:
     }
 }
 
-/// Adds what was taken of a line, which is named where there are several.
+/// Adds what was taken from a terminal line, which is named where there are several.
 fn say_taken(answer: &mut AnswerText, line: u8, is_named: bool, bytes: &[u8]) {
     let Some(last) = bytes.last() else {
         return;
@@ -72,7 +72,7 @@ fn say_taken(answer: &mut AnswerText, line: u8, is_named: bool, bytes: &[u8]) {
     }
 }
 
-/// `.TAKE`: tells what jobs have typed out.
+/// `.TAKE`: shows what jobs have typed out.
 pub fn take(session: &mut Session, timeline: &mut Timeline) {
     let before = session.answer.len();
     let is_named = session.jobs.len() > 1;

@@ -1,27 +1,27 @@
-//! The lines of a session, as they come.
+//! The loop over the lines of a session.
+
 use crate::file_lines::FileLines;
 use crate::files::{read_file, write_file};
-use crate::host::{Host, Stream};
-use crate::obey::{Wish, obey_line};
+use crate::host::{Host, Stream, write_answer};
+use crate::obey::{HostAction, obey_line};
 use crate::session::Session;
 use crate::texts;
 use ddt_timeline::Timeline;
-use program_shell::{Came, Failure};
-use run_facts::DONE;
+use program_shell::{DONE, Failure, NextLine};
 use script_io::LINE_LENGTH;
 
-/// How a line begins that says why something is not done.
+/// How a line begins that says why a file cannot be used.
 const REFUSAL_HEAD: &str = "? ";
 
-/// Takes the next line of the file that is obeyed, which is written before its answer, or else the next
-/// that is typed, for which a person is asked.
+/// Takes the next line: that of the file that is obeyed, which is shown before its answer, or else that of the input, for which a
+/// person is asked by the prompt.
 fn take_line<H: Host>(
     host: &mut H,
     session: &mut Session,
     line: &mut Vec<u8>,
-) -> Result<Came, Failure> {
+) -> Result<NextLine, Failure> {
     match session.file_lines.next_line(line, &mut session.answer) {
-        Ok(Came::End) => {}
+        Ok(NextLine::End) => {}
         Ok(came) => return Ok(came),
         Err(_) => return Err(Failure::Memory),
     }
@@ -35,7 +35,7 @@ fn take_line<H: Host>(
     host.next_line(line)
 }
 
-/// Serves lines until the session ends, and gives the exit status.
+/// Obeys lines until the session ends, and gives the exit status.
 pub fn serve_lines<H: Host>(
     host: &mut H,
     session: &mut Session,
@@ -44,9 +44,9 @@ pub fn serve_lines<H: Host>(
 ) -> Result<u8, Failure> {
     for _ in 0..u64::MAX {
         let came = take_line(host, session, line)?;
-        let wish = wish_in(session, timeline, came, line.as_slice());
-        let goes_on = serve_wish(host, session, wish);
-        match session.answer.write_to(host, Stream::Answers) {
+        let action = action_in(session, timeline, came, line.as_slice());
+        let goes_on = serve_action(host, session, action);
+        match write_answer(host, Stream::Answers, &mut session.answer) {
             Ok(()) if goes_on => {}
             Ok(()) => break,
             Err(failure) => return Err(failure),
@@ -55,54 +55,54 @@ pub fn serve_lines<H: Host>(
     Ok(DONE)
 }
 
-/// What is asked of the program by what came: a line is obeyed, and kept where it asks for no file.
-fn wish_in<'a>(
+/// Obeys a line, if one came, and gives what is left to the host. A line that does not end the session and names no file is kept.
+fn action_in<'a>(
     session: &mut Session,
     timeline: &mut Timeline,
-    came: Came,
+    came: NextLine,
     line: &'a [u8],
-) -> Wish<'a> {
+) -> HostAction<'a> {
     match came {
-        Came::End => Wish::Quit,
-        Came::TooLong => {
+        NextLine::End => HostAction::Quit,
+        NextLine::TooLong => {
             let (before, behind) = ("? a line has at most ", " characters\n");
             session
                 .answer
                 .say_number(before, LINE_LENGTH as u64, behind);
-            Wish::Nothing
+            HostAction::Refuse
         }
-        Came::Line => {
-            let wish = obey_line(session, timeline, line);
-            if matches!(wish, Wish::Nothing) {
+        NextLine::Line => {
+            let action = obey_line(session, timeline, line);
+            if matches!(action, HostAction::Keep) {
                 let kept = &mut session.kept;
                 if kept.extend_from_slice(line).is_err() || kept.push(b'\n').is_err() {
                     session.answer.fail();
                 }
             }
-            wish
+            action
         }
     }
 }
 
-/// Does what is asked of the program; false where the session ends.
-fn serve_wish<H: Host>(host: &H, session: &mut Session, wish: Wish<'_>) -> bool {
-    match wish {
-        Wish::Nothing | Wish::Refused => {}
-        Wish::Save(file) => {
+/// Does what is left to the host; false where the session ends.
+fn serve_action<H: Host>(host: &H, session: &mut Session, action: HostAction<'_>) -> bool {
+    match action {
+        HostAction::Keep | HostAction::Refuse => {}
+        HostAction::Save(file) => {
             let lines = session.kept.as_slice();
             write_file(host, REFUSAL_HEAD, file, lines, &mut session.answer);
         }
-        Wish::Do(file) => {
+        HostAction::Do(file) => {
             if let Some(text) = read_file(host, REFUSAL_HEAD, file, &mut session.answer) {
                 begin_file(session, file, text);
             }
         }
-        Wish::Quit => return false,
+        HostAction::Quit => return false,
     }
     true
 }
 
-/// The lines of this text of a file are obeyed next.
+/// Has the lines of a file obeyed next.
 fn begin_file(session: &mut Session, file: &str, text: Vec<u8>) {
     match String::from_str(session.alloc, file) {
         Ok(name) => session.file_lines = FileLines::new(name, text),

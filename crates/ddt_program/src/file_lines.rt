@@ -1,18 +1,18 @@
 //! The lines of a file that is obeyed.
 
-use crate::answer_text::AnswerText;
 use ddt_moves::line_from;
-use program_shell::Came;
+use ddt_show::AnswerText;
+use program_shell::NextLine;
 use script_io::LINE_LENGTH;
 use std::alloc::{AllocError, Global};
 
-/// The lines of a file, of which some were obeyed.
+/// The lines of a file, and how far they were obeyed.
 #[derive(Drop)]
 pub struct FileLines {
     /// The name of the file, while its lines are obeyed.
     file: Option<String>,
     text: Vec<u8>,
-    /// Where the next line begins.
+    /// The position of the next line in the text.
     next: usize,
 }
 
@@ -43,24 +43,23 @@ impl FileLines {
         }
     }
 
-    /// Puts the next line in place of `line`, and into the answer, ahead of what is answered. At the end no
-    /// file is obeyed any longer.
+    /// Puts the next line in place of `line`, and adds it to the answer. At the end of the text no file is obeyed any longer.
     pub fn next_line(
         &mut self,
         line: &mut Vec<u8>,
         answer: &mut AnswerText,
-    ) -> Result<Came, AllocError> {
+    ) -> Result<NextLine, AllocError> {
         line.clear();
         let Some((next, behind)) = line_from(self.text.as_slice(), self.next) else {
             self.file = None;
-            return Ok(Came::End);
+            return Ok(NextLine::End);
         };
         self.next = behind;
         line.extend_from_slice(next)?;
         answer.echo(next);
         if line.len() > LINE_LENGTH {
-            return Ok(Came::TooLong);
+            return Ok(NextLine::TooLong);
         }
-        Ok(Came::Line)
+        Ok(NextLine::Line)
     }
 }

@@ -1,12 +1,13 @@
-//! Going back, and forward again.
+//! Commands that go back, and forward again.
 
+use crate::run_ends::say_turn;
 use crate::session::Session;
-use crate::told::say_turn;
-use ddt_lines::Refusal;
+use ddt_commands::Refusal;
 use ddt_moves::{last_at, last_write, turn_at};
 use ddt_timeline::Timeline;
+use word36::Address;
 
-/// Puts the machine where so many steps were made, and shows what the open job executes there.
+/// Puts the machine where so many steps have been made, and shows what the open job executes next.
 fn put_back(session: &mut Session, timeline: &mut Timeline, steps: u64) {
     session.is_open = false;
     match timeline.put_back(steps) {
@@ -19,7 +20,7 @@ fn put_back(session: &mut Session, timeline: &mut Timeline, steps: u64) {
     }
 }
 
-/// `.BACK n`: so many steps back.
+/// `.BACK n`: goes n steps back.
 pub fn back(session: &mut Session, timeline: &mut Timeline, steps: u64) {
     let made = timeline.steps();
     if steps > made {
@@ -28,26 +29,29 @@ pub fn back(session: &mut Session, timeline: &mut Timeline, steps: u64) {
     put_back(session, timeline, made - steps);
 }
 
-/// `.BACK TO a`: to before the last step for which the open job stood at a place.
-pub fn back_to(session: &mut Session, timeline: &mut Timeline, place: u32) {
-    match last_at(timeline, session.open, place) {
+/// `.BACK TO a`: goes back to before the last step before which the open job stood at an address.
+pub fn back_to(session: &mut Session, timeline: &mut Timeline, address: u32) {
+    let Some(address) = Address::try_new(address) else {
+        return session.answer.refuse(Refusal::NeverThere);
+    };
+    match last_at(timeline, session.open, address) {
         Ok(Some(steps)) => put_back(session, timeline, steps),
         Ok(None) => session.answer.refuse(Refusal::NeverThere),
         Err(_) => session.answer.fail(),
     }
 }
 
-/// `.BACK WRITE a`: to before the step that last changed a word of the open job. Which job that was and
-/// where it stood is told.
-pub fn back_to_write(session: &mut Session, timeline: &mut Timeline, place: u32) {
-    let steps = match last_write(timeline, session.open, place) {
+/// `.BACK WRITE a`: goes back to before the step that last changed a word of the open job, and reports which job that was, and
+/// where.
+pub fn back_to_write(session: &mut Session, timeline: &mut Timeline, address: u32) {
+    let steps = match last_write(timeline, session.open, address) {
         Ok(Some(steps)) => steps,
         Ok(None) => return session.answer.refuse(Refusal::NeverWritten),
         Err(_) => return session.answer.fail(),
     };
     match turn_at(timeline, steps) {
         Ok(Some((job, from))) => {
-            session.say_spot(session.open, place);
+            session.say_address(session.open, address);
             session.answer.say(" was last changed by ");
             say_turn(session, job, from);
             session.answer.end_line();
@@ -58,7 +62,7 @@ pub fn back_to_write(session: &mut Session, timeline: &mut Timeline, place: u32)
     put_back(session, timeline, steps);
 }
 
-/// `.FORWARD`: to where `.BACK` was typed.
+/// `.FORWARD`: goes to where `.BACK` was typed.
 pub fn forward(session: &mut Session, timeline: &mut Timeline) {
     session.is_open = false;
     match timeline.forward() {

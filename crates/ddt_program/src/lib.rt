@@ -1,33 +1,32 @@
-//! The debugger: a session on a machine, driven by lines in the manner of DDT, over any ports.
+//! The debugger: a session on a machine, driven by lines in the manner of DDT, over any host.
 #![tactic(auto)]
 
-mod answer_text;
-mod asked;
+mod arguments;
 mod changes;
 mod dialogue;
+mod examining;
 mod file_lines;
 mod files;
 mod going_back;
 mod histories;
 mod host;
 mod loading;
-mod looks;
 mod obey;
+mod options;
 mod program;
+mod run_ends;
 mod runs;
 mod searches;
 mod session;
 mod stop_commands;
 mod tables;
 mod texts;
-mod told;
-mod words;
 
-pub use answer_text::AnswerText;
-pub use asked::Asked;
+pub use arguments::Arguments;
+pub use ddt_show::AnswerText;
 pub use host::{Host, Stream};
-pub use obey::{Wish, obey_line};
+pub use obey::{HostAction, obey_line};
+pub use options::read_arguments;
 pub use program::{ddt, not_begun};
 pub use program_shell::Refusal;
 pub use session::{Session, SessionJob};
-pub use words::read_words;

@@ -1,26 +1,25 @@
-//! Sources that are assembled, and jobs that are logged in with them.
+//! Sources that are assembled, and the jobs that are logged in for them.
 
-use crate::answer_text::AnswerText;
 use crate::session::{Session, SessionJob};
-use ddt_lines::ShownJob;
+use ddt_show::{AnswerText, ShownJob};
 use ddt_timeline::{Entry, Timeline};
 use monitor::{Answer, RefusedEvent};
 use source_labels::{Assembled, Program, Source, assemble_source, warnings_of};
 
-/// The programs of sources, where all are right. What is wrong with them, or warnings, are told.
-fn assemble_all<'a>(told: &mut AnswerText, sources: &[Source<'a>]) -> Option<Vec<Program<'a>>> {
-    let mut programs = Vec::new(told.alloc);
+/// Assembles all sources, and reports what is wrong with them, and warnings; `None` where something is wrong.
+fn assemble_all<'a>(report: &mut AnswerText, sources: &[Source<'a>]) -> Option<Vec<Program<'a>>> {
+    let mut programs = Vec::new(report.alloc);
     for source in sources {
-        match assemble_source(told.alloc, source) {
+        match assemble_source(report.alloc, source) {
             Ok(Assembled::Program(program)) => {
                 let file = program.file;
-                told.say_made(warnings_of(told.alloc, file, &program.image, &program.places));
+                report.say_made(warnings_of(report.alloc, file, &program.image, &program.places));
                 if programs.push(program).is_err() {
-                    told.fail();
+                    report.fail();
                 }
             }
-            Ok(Assembled::Refused(text)) => told.add(text.as_slice()),
-            Err(_) => told.fail(),
+            Ok(Assembled::Refused(text)) => report.add(text.as_slice()),
+            Err(_) => report.fail(),
         }
     }
     (programs.len() == sources.len()).then_some(programs)
@@ -40,17 +39,17 @@ fn add_job(session: &mut Session, file: &str, shown: ShownJob) {
     }
 }
 
-/// Tells why a program is not logged in, which was answered so.
-fn tell_refusal(told: &mut AnswerText, file: &str, answer: &Answer) {
-    told.say(file);
-    told.say(match answer {
+/// Reports why a program is not logged in, by the answer of the machine.
+fn report_refusal(report: &mut AnswerText, file: &str, answer: &Answer) {
+    report.say(file);
+    report.say(match answer {
         Answer::Refused(RefusedEvent::NoCore) => ": it takes more blocks of core than are free\n",
         Answer::Refused(RefusedEvent::BadImage) => ": it has no words\n",
         _ => ": it cannot be logged in\n",
     });
 }
 
-/// Logs a program in at the next line, and adds its job; false where it is refused, which is told.
+/// Logs a program in at the next line, and adds its job; false where it is refused, which is reported.
 fn log_in(session: &mut Session, timeline: &mut Timeline, program: Program<'_>) -> bool {
     let line = session.lines();
     let Program {
@@ -64,7 +63,7 @@ fn log_in(session: &mut Session, timeline: &mut Timeline, program: Program<'_>) 
             true
         }
         Ok(answer) => {
-            tell_refusal(&mut session.answer, file, &answer);
+            report_refusal(&mut session.answer, file, &answer);
             false
         }
         Err(_) => {
@@ -74,9 +73,8 @@ fn log_in(session: &mut Session, timeline: &mut Timeline, program: Program<'_>) 
     }
 }
 
-/// Assembles sources, and logs their programs in at lines from 0 on where all are right, none of which is
-/// started; false where one of them or of the programs is refused. What is told of that, and warnings, are
-/// the answer.
+/// Assembles all sources, and logs their programs in at the lines from 0 on; none is started. False where a source or a program
+/// is refused. The answer reports that, and warnings.
 pub fn begin(session: &mut Session, timeline: &mut Timeline, sources: &[Source<'_>]) -> bool {
     let Some(programs) = assemble_all(&mut session.answer, sources) else {
         return false;

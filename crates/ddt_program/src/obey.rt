@@ -1,75 +1,79 @@
 //! Lines that are obeyed.
 
-use crate::answer_text::AnswerText;
 use crate::changes::{deposit, make, start_at, take, type_at};
+use crate::examining::{evaluate, examine, open, show_last};
 use crate::going_back::{back, back_to, back_to_write, forward};
-use crate::histories::tell_history;
-use crate::looks::{before, examine, look_of, next_of, open, tell_as, tell_value};
+use crate::histories::show_history;
 use crate::runs::{execute, execute_call, go, proceed, step};
 use crate::searches::search;
 use crate::session::Session;
 use crate::stop_commands::{
-    set, stop_at_circles, stop_at_grants, stop_at_lock, tell_stops, unset, watch,
+    set, show_stops, stop_at_circles, stop_at_grants, stop_at_lock, unset, watch,
 };
-use crate::tables::{open_job, tell_jobs, tell_locks, tell_registers, tell_waits};
-use ddt_lines::{Command, Wrong, help_lines, is_help_on, read_line};
+use crate::tables::{open_job, show_jobs, show_locks, show_registers, show_waits};
+use ddt_commands::{Command, LineError, read_line};
+use ddt_show::{AnswerText, add_help, next_address, previous_address};
 use ddt_timeline::{Entry, Timeline};
 use std::str;
 
-/// What a line asks of the program, beside its answer.
+/// What a line leaves to the host, beside writing its answer.
 #[derive(Clone, Copy)]
-pub enum Wish<'a> {
-    /// Nothing.
-    Nothing,
-    /// Nothing: what it asks for of a file is refused.
-    Refused,
-    /// The lines so far are written to a file.
+pub enum HostAction<'a> {
+    /// Nothing; the line is kept for `.SAVE`.
+    Keep,
+    /// Nothing; the line is not kept, since it is too long, or names a file that is refused.
+    Refuse,
+    /// To write the lines that were kept to this file.
     Save(&'a str),
-    /// The lines of a file are obeyed.
+    /// To read this file, whose lines are obeyed next.
     Do(&'a str),
-    /// The session ends.
+    /// To end the session.
     Quit,
 }
 
-/// Obeys a line, and adds to the answer. A wrong line is answered by what is wrong with it, and changes
-/// nothing.
-pub fn obey_line<'a>(session: &mut Session, timeline: &mut Timeline, line: &'a [u8]) -> Wish<'a> {
+/// Obeys a line, adds what it shows to the answer, and gives what is left to the host. A line that is no command changes nothing,
+/// and is answered by what is wrong with it.
+pub fn obey_line<'a>(
+    session: &mut Session,
+    timeline: &mut Timeline,
+    line: &'a [u8],
+) -> HostAction<'a> {
     let read = read_line(line, &session.scope());
     match read {
         Ok(command) => {
             obey(session, timeline, &command);
-            wish_of(session, &command)
+            action_of(session, &command)
         }
-        Err(wrong) => {
-            tell_wrong(&mut session.answer, wrong);
-            Wish::Nothing
+        Err(error) => {
+            report_error(&mut session.answer, error);
+            HostAction::Keep
         }
     }
 }
 
-/// Says what is wrong with a line.
-fn tell_wrong(answer: &mut AnswerText, wrong: Wrong) {
+/// Reports what is wrong with a line.
+fn report_error(answer: &mut AnswerText, error: LineError) {
     let alloc = answer.alloc;
-    answer.say_made(format!(in alloc; "{wrong}\n"));
+    answer.say_made(format!(in alloc; "{error}\n"));
 }
 
-/// What a command asks of the program.
-fn wish_of<'a>(session: &mut Session, command: &Command<'a>) -> Wish<'a> {
+/// What a command leaves to the host.
+fn action_of<'a>(session: &mut Session, command: &Command<'a>) -> HostAction<'a> {
     match *command {
         Command::Save(file) => match name_in(&mut session.answer, file) {
-            Some(file) => Wish::Save(file),
-            None => Wish::Refused,
+            Some(file) => HostAction::Save(file),
+            None => HostAction::Refuse,
         },
         Command::Do(file) => match file_to_obey(session, file) {
-            Some(file) => Wish::Do(file),
-            None => Wish::Refused,
+            Some(file) => HostAction::Do(file),
+            None => HostAction::Refuse,
         },
-        Command::Quit => Wish::Quit,
-        _ => Wish::Nothing,
+        Command::Quit => HostAction::Quit,
+        _ => HostAction::Keep,
     }
 }
 
-/// The name of a file, or says that it is none.
+/// The name of a file as text; `None`, which is reported, where it is no text.
 fn name_in<'a>(answer: &mut AnswerText, file: &'a [u8]) -> Option<&'a str> {
     let name = str::from_utf8(file).ok();
     if name.is_none() {
@@ -78,8 +82,8 @@ fn name_in<'a>(answer: &mut AnswerText, file: &'a [u8]) -> Option<&'a str> {
     name
 }
 
-/// The name of a file whose lines are to be obeyed, or says that it is none, or that a line of such a file
-/// names it.
+/// The name of a file whose lines are to be obeyed; `None`, which is reported, where it is no text, or where the line that names
+/// it is a line of such a file itself.
 fn file_to_obey<'a>(session: &mut Session, file: &'a [u8]) -> Option<&'a str> {
     let Some(obeyed) = session.file_lines.file() else {
         return name_in(&mut session.answer, file);
@@ -92,12 +96,12 @@ fn file_to_obey<'a>(session: &mut Session, file: &'a [u8]) -> Option<&'a str> {
     None
 }
 
-/// Does what a command asks of the machine, as to go on and back, and of the session.
+/// Obeys a command on the machine, as one to go on or back; any other goes to `obey_look`.
 fn obey(session: &mut Session, timeline: &mut Timeline, command: &Command<'_>) {
     match *command {
         Command::Deposit(word) => deposit(session, timeline, word),
         Command::Go => go(session, timeline),
-        Command::GoAt(place) => start_at(session, timeline, place),
+        Command::GoAt(address) => start_at(session, timeline, address),
         Command::Proceed(times) => proceed(session, timeline, times),
         Command::Execute(count) => execute(session, timeline, count),
         Command::ExecuteCall => execute_call(session, timeline),
@@ -106,55 +110,46 @@ fn obey(session: &mut Session, timeline: &mut Timeline, command: &Command<'_>) {
         Command::Type(line, text) => type_at(&mut session.answer, timeline, line, text),
         Command::Take => take(session, timeline),
         Command::Back(steps) => back(session, timeline, steps),
-        Command::BackTo(place) => back_to(session, timeline, place),
-        Command::BackWrite(place) => back_to_write(session, timeline, place),
+        Command::BackTo(address) => back_to(session, timeline, address),
+        Command::BackWrite(address) => back_to_write(session, timeline, address),
         Command::Forward => forward(session, timeline),
         _ => obey_look(session, timeline, command),
     }
 }
 
-/// Does what a command asks that leaves the machine as it is: looks at places, sets stops, and tells of
-/// the jobs.
+/// Obeys a command that leaves the machine as it is: it opens addresses, sets stops, or shows something.
 fn obey_look(session: &mut Session, timeline: &Timeline, command: &Command<'_>) {
     match *command {
-        Command::Next => open(session, timeline, next_of(session.here)),
-        Command::Before => open(session, timeline, before(session.here)),
+        Command::Next => open(session, timeline, next_address(session.here)),
+        Command::Previous => open(session, timeline, previous_address(session.here)),
         Command::Addressed => open(session, timeline, session.last.right()),
-        Command::Open(place) => open(session, timeline, place),
-        Command::Tell(word) => tell_value(session, word),
-        Command::Show(look) => session.look = look,
-        Command::Last(last) => tell_as(session, look_of(last)),
+        Command::Open(address) => open(session, timeline, address),
+        Command::Evaluate(word) => evaluate(session, word),
+        Command::SetMode(mode) => session.mode = mode,
+        Command::Retype(retype) => show_last(session, retype.mode()),
         Command::Examine(first, last) => examine(session, timeline, first, last),
         Command::Search(wanted) => search(session, timeline, &wanted),
-        Command::Break(place, number) => set(session, place, number),
-        Command::Unbreak(number) => unset(session, number),
-        Command::Breaks => tell_stops(session),
-        Command::Watch(place) => watch(session, timeline, place),
+        Command::SetBreakpoint(address, number) => set(session, address, number),
+        Command::ClearBreakpoint(number) => unset(session, number),
+        Command::ListStops => show_stops(session),
+        Command::Watch(address) => watch(session, timeline, address),
         Command::BreakLock(name) => stop_at_lock(session, name),
         Command::BreakGrant => stop_at_grants(session),
         Command::BreakCircle => stop_at_circles(session),
         Command::Job(number) => open_job(session, timeline, number),
-        Command::Jobs => tell_jobs(session, timeline),
-        Command::Locks => tell_locks(&mut session.answer, timeline),
-        Command::Waits => tell_waits(&mut session.answer, timeline),
-        Command::Registers => tell_registers(session, timeline),
-        Command::History(count) => tell_history(session, timeline, count),
-        Command::Help(word) => tell_help(&mut session.answer, word),
+        Command::Jobs => show_jobs(session, timeline),
+        Command::Locks => show_locks(&mut session.answer, timeline),
+        Command::Waits => show_waits(&mut session.answer, timeline),
+        Command::Registers => show_registers(session, timeline),
+        Command::History(count) => show_history(session, timeline, count),
+        Command::Help(word) => help(&mut session.answer, word),
         _ => {}
     }
 }
 
-/// `.HELP` and `.HELP word`: tells of all commands, or of those in which the word stands.
-fn tell_help(answer: &mut AnswerText, word: &[u8]) {
-    let mut is_any = false;
-    for line in help_lines() {
-        if is_help_on(line, word) {
-            answer.say(line);
-            answer.end_line();
-            is_any = true;
-        }
-    }
-    if !is_any {
-        tell_wrong(answer, Wrong::NoCommand);
+/// `.HELP` and `.HELP word`: lists all commands, or those in which the word stands.
+fn help(answer: &mut AnswerText, word: &[u8]) {
+    if !add_help(answer, word) {
+        report_error(answer, LineError::NoCommand);
     }
 }

@@ -1,48 +1,45 @@
 //! The whole program.
 ghost use Rattle.std.specs.Prelude.{◌≡◌, ◌≢◌, false};
 
-use crate::answer_text::AnswerText;
-use crate::asked::Asked;
+use crate::arguments::Arguments;
 use crate::dialogue::serve_lines;
 use crate::files::read_file;
-use crate::host::{Host, Stream};
+use crate::host::{Host, Stream, write_answer};
 use crate::loading::begin;
+use crate::options::read_arguments;
 use crate::session::Session;
 use crate::texts;
-use crate::words::read_words;
 use ddt_moves::InputLines;
+use ddt_show::AnswerText;
 use ddt_timeline::Timeline;
-use program_shell::{Answers, Failure};
-use run_facts::{DONE, FAILED, REFUSED, USAGE};
-use program_shell::Refusal;
+use program_shell::{Answers, DONE, FAILED, Failure, REFUSED, Refusal, USAGE};
 use script_io::ByteOut;
 use source_labels::Source;
 use std::alloc::{AllocError, Global};
 use std::io::ErrorKind;
 
-/// How a line begins that tells of a file which cannot be read.
+/// How a line begins that reports a file which cannot be read.
 const ERROR_HEAD: &str = "ddt: ";
 
-/// Reads all sources; false where one cannot be read, which is told of the first.
+/// Reads all sources; false where one cannot be read, of which the first is reported.
 fn read_sources<'a, H: Host>(
     host: &H,
     files: &[&'a str],
-    told: &mut AnswerText,
+    report: &mut AnswerText,
     sources: &mut Vec<Source<'a>>,
 ) -> bool {
     for file in files {
-        let Some(text) = read_file(host, ERROR_HEAD, file, told) else {
+        let Some(text) = read_file(host, ERROR_HEAD, file, report) else {
             return false;
         };
         if sources.push(Source { file, text }).is_err() {
-            told.fail();
+            report.fail();
         }
     }
     true
 }
 
-/// Reads the lines that are typed where a job waits, if a file of them is named; false where it cannot be
-/// read, which is told.
+/// Reads the file of `--input`, if it is named; false where it cannot be read, which is reported.
 fn read_input<H: Host>(host: &H, file: Option<&str>, session: &mut Session) -> bool {
     let Some(file) = file else {
         return true;
@@ -56,8 +53,8 @@ fn read_input<H: Host>(host: &H, file: Option<&str>, session: &mut Session) -> b
     }
 }
 
-/// Says why the words were refused, or as an answer the help or the version that they asked for.
-fn tell_refusal<H: Host>(alloc: Global, refusal: Refusal, host: &mut H) -> Result<u8, Failure> {
+/// Reports why the arguments were refused, or answers with the help or the version that they ask for; gives the exit status.
+fn report_refusal<H: Host>(alloc: Global, refusal: Refusal, host: &mut H) -> Result<u8, Failure> {
     match refusal {
         Refusal::Memory => Err(Failure::Memory),
         Refusal::Usage(error) => {
@@ -68,28 +65,28 @@ fn tell_refusal<H: Host>(alloc: Global, refusal: Refusal, host: &mut H) -> Resul
             };
             let mut text = AnswerText::new(alloc);
             text.say_made(error.to_string(alloc));
-            text.write_to(host, stream).and(Ok(status))
+            write_answer(host, stream, &mut text).and(Ok(status))
         }
     }
 }
 
-/// What went wrong, in a line.
+/// The line on what went wrong.
 fn failure_line(alloc: Global, failure: Failure) -> Result<String, AllocError> {
     format!(in alloc; "ddt: {failure}\n")
 }
 
-/// Reads what is asked for, and logs a job in for each source; gives the exit status where that fails.
-/// What is wrong, and warnings, are the answer, and what a person is told first.
+/// Reads the files of the arguments, and logs a job in for each source; gives the exit status where that fails. The answer reports
+/// what is wrong, and warnings, and has the banner for a person.
 fn load<H: Host>(
     host: &H,
-    asked: &Asked<'_>,
+    arguments: &Arguments<'_>,
     session: &mut Session,
     timeline: &mut Timeline,
 ) -> Option<u8> {
     let mut sources = Vec::new(session.alloc);
-    let files = asked.files.as_slice();
+    let files = arguments.files.as_slice();
     if !read_sources(host, files, &mut session.answer, &mut sources)
-        || !read_input(host, asked.input, session)
+        || !read_input(host, arguments.input, session)
     {
         Some(FAILED)
     } else if begin(session, timeline, sources.as_slice()) {
@@ -102,17 +99,20 @@ fn load<H: Host>(
     }
 }
 
-/// Serves what is asked for, and gives the exit status. What is told before the first line is read goes
-/// where a person is told what is wrong.
-fn serve_asked<H: Host>(alloc: Global, asked: &Asked<'_>, host: &mut H) -> Result<u8, Failure> {
-    let Ok(mut timeline) = Timeline::new(alloc, asked.config) else {
+/// Runs a session, and gives the exit status. What is reported before the first line goes to the errors.
+fn run_session<H: Host>(
+    alloc: Global,
+    arguments: &Arguments<'_>,
+    host: &mut H,
+) -> Result<u8, Failure> {
+    let Ok(mut timeline) = Timeline::new(alloc, arguments.config) else {
         return Err(Failure::Memory);
     };
     let mut session = Session::new(alloc);
     let mut line = Vec::new(alloc);
-    let ended = load(host, asked, &mut session, &mut timeline);
-    let told = session.answer.write_to(host, Stream::Errors);
-    let served = match (told, ended) {
+    let ended = load(host, arguments, &mut session, &mut timeline);
+    let reported = write_answer(host, Stream::Errors, &mut session.answer);
+    let served = match (reported, ended) {
         (Err(failure), _) => Err(failure),
         (Ok(()), Some(status)) => Ok(status),
         (Ok(()), None) => serve_lines(host, &mut session, &mut timeline, &mut line),
@@ -121,13 +121,13 @@ fn serve_asked<H: Host>(alloc: Global, asked: &Asked<'_>, host: &mut H) -> Resul
     served
 }
 
-/// Does what the words, which begin with the program's name, ask for, and gives the exit status: reads
-/// files, assembles them, logs a job in for each, and obeys lines until the session ends. The help and
-/// the version are answers, and then there is no session.
-pub fn ddt<H: Host>(alloc: Global, words: &[String], host: &mut H) -> u8 {
-    let served = match read_words(alloc, words) {
-        Ok(asked) => serve_asked(alloc, &asked, host),
-        Err(refusal) => tell_refusal(alloc, refusal, host),
+/// Runs the program on its arguments, which begin with its name, and gives the exit status: reads the files, assembles them, logs a
+/// job in for each, and obeys lines until the session ends. Where the arguments ask for the help or the version, that is the
+/// answer, and there is no session.
+pub fn ddt<H: Host>(alloc: Global, arguments: &[String], host: &mut H) -> u8 {
+    let served = match read_arguments(alloc, arguments) {
+        Ok(arguments) => run_session(alloc, &arguments, host),
+        Err(refusal) => report_refusal(alloc, refusal, host),
     };
     match served {
         Ok(status) => status,
@@ -140,8 +140,8 @@ pub fn ddt<H: Host>(alloc: Global, words: &[String], host: &mut H) -> u8 {
     }
 }
 
-/// Says why the words of the command line, or the input, could not be taken, and gives the exit status: one
-/// of the words is no text, which refuses them, or there was no memory.
+/// Reports why the program cannot begin, and gives the exit status: an argument is no text (`InvalidData`), or there was no memory
+/// (any other kind).
 pub fn not_begun<E: ByteOut + Drop>(alloc: Global, kind: ErrorKind, errors: E) -> u8
     requires { E.has_failed errors ≡ false }
     ensures no_text { kind ≡ ErrorKind.InvalidData → result ≡ USAGE }

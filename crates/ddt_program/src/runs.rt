@@ -1,27 +1,26 @@
-//! Runs of the machine.
+//! Commands that run the machine.
 
+use crate::run_ends::report_end;
 use crate::session::Session;
-use crate::told::tell_end;
-use ddt_lines::Refusal;
+use ddt_commands::Refusal;
 use ddt_moves::{
-    Cause, Ended, Stops, begin, cause_at_start, go_on, is_stopped, run_to, start_jobs, stops_of,
+    Cause, RunEnd, RunStops, begin, cause_at_start, go_on, is_stopped, run_to, start_jobs, stops_of,
 };
 use ddt_timeline::{Stop, Timeline, some_go_on};
 use std::alloc::AllocError;
 use word36::Word;
 
-/// The most steps that a run makes of itself.
+/// The most steps of a run whose command gives no number of steps.
 const MOST_STEPS: u32 = 1_000_000_000;
 
-/// Makes steps until a stop holds, no job can go on, or so many are made. A run stops at its own stops,
-/// which come first, at those that were asked for, and where a job waits for characters as long as there
-/// are lines for it: the next one is typed.
+/// Makes steps until a stop holds, no job can go on, or `most` are made. A run stops at its own stops, which come first, and at
+/// those that the user set. Where a job waits for characters it types the next line of the input, as long as there is one.
 fn try_run(
     session: &mut Session,
     timeline: &mut Timeline,
     own: &[Stop],
     most: u32,
-) -> Result<Ended, AllocError> {
+) -> Result<RunEnd, AllocError> {
     let machine = timeline.machine();
     let mut stops = stops_of(session.alloc, machine, own, &session.list)?;
     if session.input.is_left(timeline.happened()) {
@@ -30,13 +29,13 @@ fn try_run(
     run_with_input(session, timeline, &mut stops, most)
 }
 
-/// Makes steps as `try_run` does. Where there is no memory, the run ends, and the answer fails.
-fn run(session: &mut Session, timeline: &mut Timeline, own: &[Stop], most: u32) -> Ended {
+/// Makes steps as `try_run` does. Where there is too little memory, the run ends, and the answer fails.
+fn run(session: &mut Session, timeline: &mut Timeline, own: &[Stop], most: u32) -> RunEnd {
     match try_run(session, timeline, own, most) {
-        Ok(ended) => ended,
+        Ok(end) => end,
         Err(_) => {
             session.answer.fail();
-            Ended::at_once(None)
+            RunEnd::at_once(None)
         }
     }
 }
@@ -45,34 +44,34 @@ fn run(session: &mut Session, timeline: &mut Timeline, own: &[Stop], most: u32) 
 fn run_with_input(
     session: &mut Session,
     timeline: &mut Timeline,
-    stops: &mut Stops,
+    stops: &mut RunStops,
     most: u32,
-) -> Result<Ended, AllocError> {
-    let end = timeline.steps().saturating_add(u64::from(most));
+) -> Result<RunEnd, AllocError> {
+    let last = timeline.steps().saturating_add(u64::from(most));
     for _ in 0..most {
-        let left = end.saturating_sub(timeline.steps());
-        let ended = run_to(
+        let left = last.saturating_sub(timeline.steps());
+        let end = run_to(
             timeline,
             stops,
             &session.list,
             left.min(u64::from(most)) as u32,
             &mut session.grants,
         )?;
-        if !goes_on(session, timeline, ended)? {
-            return Ok(ended);
+        if !goes_on(session, timeline, end)? {
+            return Ok(end);
         }
     }
-    Ok(Ended::at_once(None))
+    Ok(RunEnd::at_once(None))
 }
 
-/// Whether a run that ended so goes on: it came to where characters are waited for, or to where no job
-/// goes on, and the next line of the input is typed, or some job goes on behind its last one.
+/// Whether a run goes on behind this end: a job waits for characters, or no job goes on, and the next line of the input is typed,
+/// or some job goes on behind the last line.
 fn goes_on(
     session: &mut Session,
     timeline: &mut Timeline,
-    ended: Ended,
+    end: RunEnd,
 ) -> Result<bool, AllocError> {
-    if ended.is_cut || !matches!(ended.cause, None | Some(Cause::Input)) {
+    if end.is_cut || !matches!(end.cause, None | Some(Cause::Input)) {
         return Ok(false);
     }
     let lines = session.lines();
@@ -92,42 +91,59 @@ pub fn go(session: &mut Session, timeline: &mut Timeline) {
     }
 }
 
-/// Runs where jobs were started just now: one that stands where runs stop stops the run before it begins.
+/// Runs where jobs were started just now.
 pub fn run_from_start(session: &mut Session, timeline: &mut Timeline) {
     let lines = session.lines();
-    match cause_at_start(timeline, lines, &session.list) {
-        Ok(Some(cause)) => tell_end(session, timeline, Ended::at_once(Some(cause)), MOST_STEPS),
-        Ok(None) => proceed(session, timeline, 1),
-        Err(_) => session.answer.fail(),
-    }
+    let begun = cause_at_start(timeline, 1, lines, &session.list);
+    proceed_from(session, timeline, begun, 1);
 }
 
-/// `n$P`: the jobs go on, until so many breakpoints were come to.
+/// `n$P`: lets the jobs go on up to the n-th breakpoint, and continues the open one where CTRL-C or EXIT 1 stopped it.
 pub fn proceed(session: &mut Session, timeline: &mut Timeline, times: u32) {
-    if go_on(timeline, session.open).is_err() {
-        return session.answer.fail();
-    }
-    let mut ended = run(session, timeline, &[], MOST_STEPS);
+    let open = session.open;
+    let begun = match go_on(timeline, open) {
+        Ok(true) => cause_at_start(timeline, open, open, &session.list),
+        Ok(false) => Ok(None),
+        Err(error) => Err(error),
+    };
+    proceed_from(session, timeline, begun, times);
+}
+
+/// Lets the jobs go on up to the n-th breakpoint. A job that was started or continued just now may stand where runs stop: then
+/// that is the first of the stops, and no step is made before it.
+fn proceed_from(
+    session: &mut Session,
+    timeline: &mut Timeline,
+    begun: Result<Option<Cause>, AllocError>,
+    times: u32,
+) {
+    // A cause may hold a word: the prover wants its type to be named.
+    let _word: Option<Word> = None;
+    let mut end = match begun {
+        Ok(None) => run(session, timeline, &[], MOST_STEPS),
+        Ok(cause) => RunEnd::at_once(cause),
+        Err(_) => return session.answer.fail(),
+    };
     for _ in 1..times {
-        if !matches!(ended.cause, Some(Cause::Breakpoint(_, _, _))) {
+        if !matches!(end.cause, Some(Cause::Breakpoint(_, _, _))) {
             break;
         }
-        ended = run(session, timeline, &[], MOST_STEPS);
+        end = run(session, timeline, &[], MOST_STEPS);
     }
-    tell_end(session, timeline, ended, MOST_STEPS);
+    report_end(session, timeline, end, MOST_STEPS);
 }
 
-/// `n$X`: so many instructions of the open job, behind each of which the next is told, or fewer where one
-/// is the last that it can execute now.
+/// `n$X`: executes n instructions of the open job, and shows behind each the next one; fewer where the job is stopped, or another
+/// stop holds.
 pub fn execute(session: &mut Session, timeline: &mut Timeline, count: u32) {
     let number = session.open;
     if begin(timeline, number).is_err() {
         return session.answer.fail();
     }
     for _ in 0..count {
-        let ended = run(session, timeline, &[Stop::Turn(number)], MOST_STEPS);
-        let cause = ended.cause;
-        tell_end(session, timeline, ended, MOST_STEPS);
+        let end = run(session, timeline, &[Stop::Turn(number)], MOST_STEPS);
+        let cause = end.cause;
+        report_end(session, timeline, end, MOST_STEPS);
         let is_own = matches!(cause, Some(Cause::Own));
         if !is_own || is_stopped(timeline.machine(), number) {
             break;
@@ -135,7 +151,7 @@ pub fn execute(session: &mut Session, timeline: &mut Timeline, count: u32) {
     }
 }
 
-/// `$$X`: until the open job comes to the place behind its instruction, or the one behind that.
+/// `$$X`: lets the open job go on until it comes to the address behind its instruction, or the one behind that, or ends.
 pub fn execute_call(session: &mut Session, timeline: &mut Timeline) {
     // A stop may hold a word, of which these have none: the prover wants its type to be named.
     let _word: Option<Word> = None;
@@ -146,23 +162,24 @@ pub fn execute_call(session: &mut Session, timeline: &mut Timeline) {
     match timeline.machine().job(number) {
         Some(view) => {
             let own = [
-                Stop::Place(number, view.pc.plus(1)),
-                Stop::Place(number, view.pc.plus(2)),
+                Stop::At(number, view.pc.plus(1)),
+                Stop::At(number, view.pc.plus(2)),
+                Stop::End(number),
             ];
-            let ended = run(session, timeline, &own, MOST_STEPS);
-            tell_end(session, timeline, ended, MOST_STEPS);
+            let end = run(session, timeline, &own, MOST_STEPS);
+            report_end(session, timeline, end, MOST_STEPS);
         }
-        None => session.tell_job(timeline, number),
+        None => session.show_job(timeline, number),
     }
 }
 
-/// `.STEP n`: so many steps of the machine.
+/// `.STEP n`: makes n steps of the machine, or fewer where a stop holds.
 pub fn step(session: &mut Session, timeline: &mut Timeline, count: u32) {
-    let ended = run(session, timeline, &[], count);
-    if ended.is_cut {
+    let end = run(session, timeline, &[], count);
+    if end.is_cut {
         session.is_open = false;
         session.show_next(timeline);
     } else {
-        tell_end(session, timeline, ended, count);
+        report_end(session, timeline, end, count);
     }
 }

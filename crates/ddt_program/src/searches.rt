@@ -1,13 +1,13 @@
 //! Searches for words.
 
 use crate::session::Session;
-use ddt_lines::{Search, SearchKind};
-use ddt_timeline::Timeline;
 use concrete_machine::Machine;
+use ddt_commands::{Search, SearchKind};
+use ddt_timeline::Timeline;
 use run_notes::effective_address;
 use word36::{BLOCK_WORDS, Word};
 
-/// Whether a word of a job is one that is searched for.
+/// Whether a search finds a word of a job.
 fn is_found(machine: &Machine, number: u8, search: &Search, word: Word) -> bool {
     let mask = search.mask.number();
     let is_equal = word.number() & mask == search.value.number() & mask;
@@ -21,19 +21,19 @@ fn is_found(machine: &Machine, number: u8, search: &Search, word: Word) -> bool 
     }
 }
 
-/// Shows the words of the open job's core that are searched for.
+/// `value<mask>$W` and the like: shows the words in the core of the open job that a search finds.
 pub fn search(session: &mut Session, timeline: &Timeline, search: &Search) {
     let number = session.open;
     let Some(view) = timeline.machine().job(number) else {
-        return session.tell_job(timeline, number);
+        return session.show_job(timeline, number);
     };
-    for place in 0..view.blocks.saturating_mul(BLOCK_WORDS as u32) {
-        let Some(word) = timeline.machine().peek(number, place) else {
+    for address in 0..view.blocks.saturating_mul(BLOCK_WORDS as u32) {
+        let Some(word) = timeline.machine().peek(number, address) else {
             break;
         };
         if is_found(timeline.machine(), number, search, word) {
-            session.show_place(timeline, place);
-            session.here = place;
+            session.show_address(timeline, address);
+            session.here = address;
         }
     }
 }

@@ -1,9 +1,9 @@
-//! A session: the machine with its jobs, and what is looked at.
+//! A session of the debugger.
 
-use crate::answer_text::AnswerText;
 use crate::file_lines::FileLines;
-use ddt_lines::{Look, Scope, ShownJob, Symbol, job_line, place_line, place_text};
-use ddt_moves::{InputLines, StopList};
+use ddt_commands::{OutputMode, Scope, Symbol};
+use ddt_moves::{InputLines, StopList, ended_at};
+use ddt_show::{AnswerText, ShownJob, address_line, address_text, job_line};
 use ddt_timeline::Timeline;
 use job_sched::Wait;
 use std::alloc::{AllocError, Global};
@@ -16,12 +16,12 @@ pub struct SessionJob {
     pub shown: ShownJob,
     /// The name of its source's file.
     pub file: String,
-    /// Its labels.
+    /// Its labels, with their addresses.
     pub symbols: Vec<Symbol>,
 }
 
 impl SessionJob {
-    /// Gives it the labels of its places.
+    /// Fills its symbols with the labels of its source.
     pub fn add_labels(&mut self) -> Result<(), AllocError> {
         for label in self.shown.places.labels.as_slice() {
             self.symbols.push(Symbol {
@@ -33,8 +33,7 @@ impl SessionJob {
     }
 }
 
-/// A session: what is looked at, where runs stop, and what is told. The machine, with all that has happened
-/// to it, stands beside it.
+/// A session: what is open, where runs stop, and the answer. The machine, with all that has happened to it, stands beside it.
 #[derive(Drop)]
 pub struct Session {
     /// Where memory comes from.
@@ -43,21 +42,21 @@ pub struct Session {
     pub jobs: Vec<SessionJob>,
     /// The number of the job that is open.
     pub open: u8,
-    /// How words are shown.
-    pub look: Look,
-    /// The place that is open, or was last: `.`.
+    /// The mode in which words are shown.
+    pub mode: OutputMode,
+    /// The address that is open, or was open last: `.`.
     pub here: u32,
-    /// Whether a place is open.
+    /// Whether an address is open.
     pub is_open: bool,
-    /// The last quantity.
+    /// The last quantity: `$Q`.
     pub last: Word,
-    /// Where runs stop.
+    /// The stops that the user sets.
     pub list: StopList,
-    /// The lines on the grants that ended a run last.
+    /// The lines on the grant that ended a run last.
     pub grants: String,
-    /// What is typed where a job waits for characters.
+    /// The lines that are typed where a job waits for characters.
     pub input: InputLines,
-    /// Behind how many entries the first word was deposited.
+    /// How many entries had happened when the first word was deposited.
     pub edited: Option<usize>,
     /// The answer that is not written yet.
     pub answer: AnswerText,
@@ -68,13 +67,13 @@ pub struct Session {
 }
 
 impl Session {
-    /// A session without jobs, whose first will be open, and where nothing was looked at.
+    /// A session without jobs, whose first will be open.
     pub fn new(alloc: Global) -> Self {
         Session {
             alloc,
             jobs: Vec::new(alloc),
             open: 1,
-            look: Look::Symbolic,
+            mode: OutputMode::Symbolic,
             here: 0,
             is_open: false,
             last: Word::new(0),
@@ -88,7 +87,7 @@ impl Session {
         }
     }
 
-    /// Ends the session, and gives back the memory that it and its machine have.
+    /// Ends the session, and gives back its memory and that of its machine.
     pub fn end(self, _timeline: Timeline) {}
 
     /// How many terminal lines have jobs: line 0 job 1, line 1 job 2, and so on.
@@ -108,7 +107,7 @@ impl Session {
         self.job(self.open)
     }
 
-    /// What the symbols of a line stand for.
+    /// What the symbols of a line stand for, by the open job.
     pub fn scope(&self) -> Scope<'_> {
         let symbols = match self.open_job() {
             Some(job) => job.symbols.as_slice(),
@@ -121,23 +120,22 @@ impl Session {
         }
     }
 
-    /// Adds a place of a job: `LOOP+3`.
-    pub fn say_spot(&mut self, job: u8, place: u32) {
+    /// Adds an address of a job: `LOOP+3`.
+    pub fn say_address(&mut self, job: u8, address: u32) {
         let text = match self.job(job) {
-            Some(job) => place_text(self.alloc, &job.shown, place),
-            None => format!(in self.alloc; "{place:o}"),
+            Some(job) => address_text(self.alloc, &job.shown, address),
+            None => format!(in self.alloc; "{address:o}"),
         };
         self.answer.say_made(text);
     }
 
-    /// Adds the line of a place of the open job and its word, as words are shown; false where it has no
-    /// word there.
-    pub fn show_place(&mut self, timeline: &Timeline, place: u32) -> bool {
-        let Some(word) = timeline.machine().peek(self.open, place) else {
+    /// Adds the line on an address of the open job and the word there; false where it has no word there.
+    pub fn show_address(&mut self, timeline: &Timeline, address: u32) -> bool {
+        let Some(word) = timeline.machine().peek(self.open, address) else {
             return false;
         };
         if let Some(job) = self.open_job() {
-            let line = place_line(self.alloc, &job.shown, place, word, self.look);
+            let line = address_line(self.alloc, &job.shown, address, word, self.mode);
             self.answer.say_made(line);
         }
         self.answer.end_line();
@@ -145,40 +143,39 @@ impl Session {
         true
     }
 
-    /// Adds the line of what the open job executes next, or how it stands where it does not run.
+    /// Adds the line on what the open job executes next, or on how it stands where it is stopped or waits.
     pub fn show_next(&mut self, timeline: &Timeline) {
         let mut is_shown = false;
         if let Some(view) = timeline.machine().job(self.open) {
             self.here = view.pc.number();
             let is_running = view.stop.is_none() && view.wait == Wait::None;
-            is_shown = is_running && self.show_place(timeline, self.here);
+            is_shown = is_running && self.show_address(timeline, self.here);
         }
         if !is_shown {
-            self.tell_job(timeline, self.open);
+            self.show_job(timeline, self.open);
         }
     }
 
-    /// Adds the line on how a job stands.
-    pub fn tell_job(&mut self, timeline: &Timeline, number: u8) {
+    /// Adds the line on how a job stands, with the address where it ended, or its PC.
+    pub fn show_job(&mut self, timeline: &Timeline, number: u8) {
+        let Ok(ended_at) = ended_at(timeline, number) else {
+            return self.answer.fail();
+        };
         if let Some(job) = self.job(number) {
-            let line = job_line(
-                self.alloc,
-                timeline.machine(),
-                &job.shown,
-                job.file.as_str(),
-            );
+            let file = job.file.as_str();
+            let line = job_line(self.alloc, timeline.machine(), &job.shown, file, ended_at);
             self.answer.say_made(line);
         }
     }
 
     /// Adds the lines on how all jobs stand.
-    pub fn tell_jobs(&mut self, timeline: &Timeline) {
+    pub fn show_jobs(&mut self, timeline: &Timeline) {
         for number in 1..self.lines().saturating_add(1) {
-            self.tell_job(timeline, number);
+            self.show_job(timeline, number);
         }
     }
 
-    /// Whether words were deposited before this.
+    /// Whether words have been deposited, as the machine stands now.
     pub fn is_edited(&self, timeline: &Timeline) -> bool {
         match self.edited {
             Some(happened) => happened < timeline.happened(),

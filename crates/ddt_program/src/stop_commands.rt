@@ -1,74 +1,66 @@
-//! Breakpoints, watched words and the other stops, as they are asked for.
+//! Commands that set breakpoints and the other stops.
 
 use crate::session::Session;
-use ddt_lines::Refusal;
-use ddt_moves::{BREAKPOINTS, Breakpoint, StopList, WatchedWord};
+use ddt_commands::Refusal;
+use ddt_moves::{BREAKPOINTS, Breakpoint, WatchedWord};
 use ddt_timeline::Timeline;
 use lock_queue::Name;
 use queue_script::CallRoom;
 use script_io::Parts;
 use word36::Address;
 
-/// Sets a breakpoint of the open job.
-pub fn set(session: &mut Session, place: u32, number: Option<u8>) {
-    let Some(place) = Address::try_new(place) else {
+/// `a$B` and `a$nB`: sets a breakpoint of the open job.
+pub fn set(session: &mut Session, address: u32, number: Option<u8>) {
+    let Some(address) = Address::try_new(address) else {
         return session.answer.refuse(Refusal::NoWord);
     };
     let job = session.open;
-    match session.list.set(job, place, number) {
-        Some(number) => tell_breakpoint(session, number, Breakpoint { job, place }),
+    match session.list.set(job, address, number) {
+        Some(number) => show_breakpoint(session, number, Breakpoint { job, address }),
         None => session.answer.refuse(Refusal::NoBreakpointFree),
     }
 }
 
-/// Takes a breakpoint away.
+/// `0$nB`: clears a breakpoint.
 pub fn unset(session: &mut Session, number: u8) {
     if !session.list.unset(number) {
         session.answer.refuse(Refusal::NotSet);
     }
 }
 
-/// Adds the place of a job where runs stop, with which the line ends: ` job 1 LOOP+3`.
-fn say_stop(session: &mut Session, job: u8, place: u32) {
+/// Adds the address of a stop, and ends the line: ` job 1 LOOP+3`.
+fn say_stop(session: &mut Session, job: u8, address: u32) {
     session.answer.say_number(" job ", u64::from(job), " ");
-    session.say_spot(job, place);
+    session.say_address(job, address);
     session.answer.end_line();
 }
 
-/// The line on a breakpoint: `$1B job 1 LOOP+3`.
-fn tell_breakpoint(session: &mut Session, number: usize, breakpoint: Breakpoint) {
+/// Shows a breakpoint: `$1B job 1 LOOP+3`.
+fn show_breakpoint(session: &mut Session, number: usize, breakpoint: Breakpoint) {
     session.answer.say_number("$", number as u64, "B");
-    say_stop(session, breakpoint.job, breakpoint.place.number());
+    say_stop(session, breakpoint.job, breakpoint.address.number());
 }
 
-/// The line on a word that is watched, or no longer: `watched job 1 COUNT`.
-fn tell_watched(session: &mut Session, word: WatchedWord, is_watched: bool) {
+/// Shows a word that is watched, or no longer: `watched job 1 COUNT`.
+fn show_watched(session: &mut Session, word: WatchedWord, is_watched: bool) {
     session.answer.say(if is_watched {
         "watched"
     } else {
         "no longer watched"
     });
-    say_stop(session, word.job, word.place);
+    say_stop(session, word.job, word.address);
 }
 
-/// The breakpoint at a place of the list, if one is set there.
-fn breakpoint_at(list: &StopList, at: usize) -> Option<Breakpoint> {
-    match list.breakpoints.get(at) {
-        Some(slot) => *slot,
-        None => None,
-    }
-}
-
-/// Tells the breakpoints, and what else runs stop at.
-pub fn tell_stops(session: &mut Session) {
-    for at in 0..BREAKPOINTS {
-        if let Some(breakpoint) = breakpoint_at(&session.list, at) {
-            tell_breakpoint(session, at.saturating_add(1), breakpoint);
+/// `$B`: shows the breakpoints, and what else runs stop at.
+pub fn show_stops(session: &mut Session) {
+    for slot in 0..BREAKPOINTS {
+        if let Some(breakpoint) = session.list.breakpoints.get(slot).copied().flatten() {
+            show_breakpoint(session, slot.saturating_add(1), breakpoint);
         }
     }
-    for at in 0..session.list.words.len() {
-        if let Some(word) = session.list.words.as_slice().get(at).copied() {
-            tell_watched(session, word, true);
+    for position in 0..session.list.words.len() {
+        if let Some(word) = session.list.words.as_slice().get(position).copied() {
+            show_watched(session, word, true);
         }
     }
     if session.list.circles {
@@ -82,20 +74,20 @@ pub fn tell_stops(session: &mut Session) {
     }
 }
 
-/// Watches a word of the open job, or no longer.
-pub fn watch(session: &mut Session, timeline: &Timeline, place: u32) {
+/// `.WATCH a`: watches a word of the open job, or no longer.
+pub fn watch(session: &mut Session, timeline: &Timeline, address: u32) {
     let job = session.open;
-    if timeline.machine().peek(job, place).is_none() {
+    if timeline.machine().peek(job, address).is_none() {
         return session.answer.refuse(Refusal::NoWord);
     }
-    let word = WatchedWord { job, place };
+    let word = WatchedWord { job, address };
     match session.list.watch(word) {
-        Some(is_watched) => tell_watched(session, word, is_watched),
+        Some(is_watched) => show_watched(session, word, is_watched),
         None => session.answer.refuse(Refusal::NoWatchFree),
     }
 }
 
-/// Runs stop at circles of waits, or no longer.
+/// `.BREAK CIRCLE`: stops runs at circles of waits, or no longer.
 pub fn stop_at_circles(session: &mut Session) {
     session.list.circles = !session.list.circles;
     session.answer.say(if session.list.circles {
@@ -105,7 +97,7 @@ pub fn stop_at_circles(session: &mut Session) {
     });
 }
 
-/// Runs stop where a request is granted, or no longer.
+/// `.BREAK GRANT`: stops runs where a request is granted, or no longer.
 pub fn stop_at_grants(session: &mut Session) {
     session.list.grants = !session.list.grants;
     session.answer.say(if session.list.grants {
@@ -115,7 +107,7 @@ pub fn stop_at_grants(session: &mut Session) {
     });
 }
 
-/// The name of a lock that is written as in a queue script, where it is one.
+/// The lock that a text names, as in a queue script, if it names one.
 fn lock_name(job: u8, text: &[u8]) -> Option<Name> {
     let mut room = CallRoom::new();
     match room.keys(job, Parts::of(text, b' ')) {
@@ -127,7 +119,7 @@ fn lock_name(job: u8, text: &[u8]) -> Option<Name> {
     }
 }
 
-/// Runs stop before calls on a lock, or no longer where they do.
+/// `.BREAK LOCK name`: stops runs before calls on a lock, or no longer where they do.
 pub fn stop_at_lock(session: &mut Session, text: &[u8]) {
     let Some(name) = lock_name(session.open, text) else {
         return session.answer.refuse(Refusal::NoLock);

@@ -1,24 +1,24 @@
-//! What is told of jobs, locks and registers.
+//! Commands that show jobs, locks and registers.
 
-use crate::answer_text::AnswerText;
 use crate::session::Session;
-use ddt_lines::{Refusal, lock_lines, register_lines, wait_lines};
+use ddt_commands::Refusal;
+use ddt_show::{AnswerText, lock_lines, register_lines, wait_lines};
 use ddt_timeline::Timeline;
 use std::alloc::AllocError;
 
-/// Opens a job.
+/// `.JOB n`: opens a job, and shows how it stands.
 pub fn open_job(session: &mut Session, timeline: &Timeline, number: u8) {
     if usize::from(number) > session.jobs.len() || number == 0 {
         return session.answer.refuse(Refusal::NoJob);
     }
     session.open = number;
     session.is_open = false;
-    session.tell_job(timeline, number);
+    session.show_job(timeline, number);
 }
 
-/// Tells how all jobs stand, how many steps were made, and whether words were deposited.
-pub fn tell_jobs(session: &mut Session, timeline: &Timeline) {
-    session.tell_jobs(timeline);
+/// `.JOBS`: shows how all jobs stand, how many steps have been made, and whether words have been deposited.
+pub fn show_jobs(session: &mut Session, timeline: &Timeline) {
+    session.show_jobs(timeline);
     let (steps, ticks) = (timeline.steps(), timeline.ticks());
     session.answer.say_number("steps ", steps, ", ");
     session.answer.say_number("ticks ", ticks, "");
@@ -28,7 +28,7 @@ pub fn tell_jobs(session: &mut Session, timeline: &Timeline) {
     session.answer.end_line();
 }
 
-/// Adds lines that were just made, or that there is none.
+/// Adds lines that were made just now, or a text in place of none.
 fn say_lines(answer: &mut AnswerText, made: Result<Vec<u8>, AllocError>, none: &str) {
     let Ok(lines) = made else {
         return answer.fail();
@@ -40,20 +40,20 @@ fn say_lines(answer: &mut AnswerText, made: Result<Vec<u8>, AllocError>, none: &
     }
 }
 
-/// Tells the requests for locks.
-pub fn tell_locks(answer: &mut AnswerText, timeline: &Timeline) {
+/// `.LOCKS`: shows the requests for locks.
+pub fn show_locks(answer: &mut AnswerText, timeline: &Timeline) {
     let lines = lock_lines(answer.alloc, timeline.machine());
     say_lines(answer, lines, "no requests\n");
 }
 
-/// Tells who waits for whom.
-pub fn tell_waits(answer: &mut AnswerText, timeline: &Timeline) {
+/// `.WAITS`: shows who waits for whom.
+pub fn show_waits(answer: &mut AnswerText, timeline: &Timeline) {
     let lines = wait_lines(answer.alloc, timeline.machine());
     say_lines(answer, lines, "no job waits for another\n");
 }
 
-/// Tells the registers of the open job.
-pub fn tell_registers(session: &mut Session, timeline: &Timeline) {
+/// `.REGS`: shows the registers of the open job.
+pub fn show_registers(session: &mut Session, timeline: &Timeline) {
     if let Some(job) = session.open_job() {
         let lines = register_lines(session.alloc, timeline.machine(), &job.shown);
         session.answer.say_made(lines);

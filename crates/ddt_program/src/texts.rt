@@ -1,6 +1,6 @@
-//! What `--help` and `--version` say, and what a person is told first.
+//! The texts of `--help` and `--version`, the banner and the prompt.
 
-/// The program.
+/// What the program is.
 pub const PROGRAM: &str =
     "A debugger in the manner of DDT for programs in a subset of MACRO-10 on a \
     DECsystem-10 (KA10): it goes back as well as on.";
@@ -17,8 +17,8 @@ pub const PROGRAM_END: &str = "As in:  ddt examples/counter.mac\n\
 pub const INPUT: &str =
     "lines that are typed where a job waits for characters, at line 0, or at line n those behind n:";
 
-/// What stands before a line that a person is to type.
+/// The prompt, for a person.
 pub const PROMPT: &str = "ddt> ";
 
-/// What a person is told first.
+/// The banner, for a person.
 pub const BANNER: &str = "ddt 0.1.0: .HELP lists the commands, .QUIT ends the session\n";

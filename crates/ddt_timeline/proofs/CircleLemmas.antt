@@ -6,8 +6,8 @@ use Rattle.word36.specs.declared.sizes.TheConstants.{JOBS}
 use Rattle.lock_queue.specs.Jobs.{waits_for}
 use Rattle.lock_queue.specs.Waits.{numbers_from, jobs, leads_to, is_in_circle}
 use Rattle.lock_queue.specs.declared.request.Request.{Request}
-use Rattle.queue_script.specs.WaitPairs.{pair_in}
-use Rattle.queue_script.specs.declared.circles.TheConstants.{NUMBERS, PAIRS}
+use Rattle.wait_graph.specs.Pairs.{pair_in}
+use Rattle.wait_graph.specs.declared.pairs.TheConstants.{NUMBERS, PAIRS}
 
 any-same_from : (f g : ℕ → Bool) (count first : ℕ) → first + count ≤ NUMBERS → ((m : ℕ) → m < NUMBERS → f m ≡ g m)
     → list_any f (numbers_from first count) ≡ list_any g (numbers_from first count)
@@ -35,7 +35,7 @@ circle_by_table : (v w : ℕ → ℕ → Bool) (j : ℕ) → ((a b : ℕ) → a 
     → is_in_circle v j ≡ is_in_circle w j
 circle_by_table v w j same h = leads-same v w JOBS j j same h h
 
--- who waits in a circle, by the places of a table
+-- who waits in a circle, by the addresses of a table
 pub circle_in : (pairs : List Bool) (requests : List Request) (j : ℕ)
     → ((i : ℕ) → i < PAIRS → slice_index_or pairs i false ≡ waits_for requests (i / NUMBERS) (i % NUMBERS)) → j < NUMBERS
     → is_in_circle (pair_in pairs) j ≡ is_in_circle (waits_for requests) j

@@ -4,11 +4,11 @@ use Rattle.std.proofs.Common.{◌≡◌, ◌<◌, ◌∙◌, false, sym, ap, ℕ
 use Rattle.std.proofs.Common.{Some, None, take, refl, arith, length, get_or, map, add-one}
 use Rattle.machine.specs.Machine.{S, after, stepped}
 use Rattle.machine.specs.Rounds.{rounds}
-use Rattle.ddt_timeline.specs.Stops.{ran_of, round, looked}
+use Rattle.ddt_timeline.specs.Stops.{ran_of, round, noted}
 use Rattle.ddt_timeline.specs.Timelines.{made, played, reached, steps_in, steps_of}
 use Rattle.ddt_timeline.specs.declared.entries.Entry.{Entry}
 use Rattle.ddt_timeline.specs.declared.entries.Entry.TheVariants.{Rounds}
-use Rattle.ddt_timeline.specs.declared.stops.LookedAt.{LookedAt}
+use Rattle.ddt_timeline.specs.declared.stops.WatchedStop.{WatchedStop}
 
 -- a step's answer names the job that ran
 pub ran_stepped : (s : S) (o : Option ℕ) → ran_of (stepped s o).answer ≡ o
@@ -47,14 +47,14 @@ reached_more es e whole s all =
     ∙ ap (λ (ys : List Entry). made (played ys s) e) (sym (take-whole es))
     ∙ ap (λ (n : ℕ). made (played (take n es) s) e) (sym all)
 
--- stops that were looked at before are looked at anew
-pub looked_again : (stops : List LookedAt) (s t : S) → map (looked t) (map (looked s) stops) ≡ map (looked t) stops
-looked_again [] s t = refl
-looked_again (p ∷ ps) s t = ap (λ (qs : List LookedAt). looked t p ∷ qs) (looked_again ps s t)
+-- stops that were noted before are noted anew
+pub noted_again : (stops : List WatchedStop) (s t : S) → map (noted t) (map (noted s) stops) ≡ map (noted t) stops
+noted_again [] s t = refl
+noted_again (p ∷ ps) s t = ap (λ (qs : List WatchedStop). noted t p ∷ qs) (noted_again ps s t)
 
--- the stops, looked at anew behind a round
-pub looked_on : (stops seen seen' : List LookedAt) (m m' : S) → seen ≡ map (looked m) stops → seen' ≡ map (looked m') seen → seen' ≡ map (looked m') stops
-looked_on stops seen seen' m m' before now = now ∙ ap (λ (l : List LookedAt). map (looked m') l) before ∙ looked_again stops m m'
+-- the stops, noted anew behind a round
+pub noted_on : (stops seen seen' : List WatchedStop) (m m' : S) → seen ≡ map (noted m) stops → seen' ≡ map (noted m') seen → seen' ≡ map (noted m') stops
+noted_on stops seen seen' m m' before now = now ∙ ap (λ (l : List WatchedStop). map (noted m') l) before ∙ noted_again stops m m'
 
 steps-next : (es : List Entry) (i : ℕ) (e : Entry) → i < length es → e ≡ get_or es i e → steps_in (take (suc i) es) ≡ steps_in (take i es) + steps_of e
 steps-next [] i e within is = absurd (omega (arith, within))

@@ -6,15 +6,15 @@ use Rattle.machine.specs.Deposits.{deposited, started_at}
 use Rattle.machine.specs.Machine.{S, after, logged_in, started, continued, killed, typed, taken, ticked}
 use Rattle.machine.specs.Rounds.{rounds}
 use Rattle.ddt_timeline.specs.declared.entries.Entry.{Entry}
-use Rattle.ddt_timeline.specs.declared.entries.Entry.TheVariants.{Rounds, Login, Start, Continue, Kill, Typed, Take, Ticks, Deposit, StartAt}
+use Rattle.ddt_timeline.specs.declared.entries.Entry.TheVariants.{Rounds, Login, Start, Continue, Kill, Typed, Take, Ticks}
+use Rattle.ddt_timeline.specs.declared.entries.Entry.TheVariants.{Deposit, StartAt}
 
--- so many ticks, one after the other
+-- the state after so many ticks
 abbrev pub ticked_so_often : ℕ → S → S
 ticked_so_often zero s = s
 ticked_so_often (suc n) s = (ticked (ticked_so_often n s)).state
 
--- the state after an entry: so many steps with a tick behind each, what the machine does at one event, or what a debugger
--- changes of a job
+-- the state after an entry: so many steps, each followed by a tick, one event, or a change that a debugger makes to a job
 abbrev pub made : S → Entry → S
 made s (Rounds n) = after (rounds n true) s
 made s (Login line image) = (logged_in s line image.words.items image.start).state
@@ -49,7 +49,7 @@ steps_of (Ticks n) = 0
 steps_of (Deposit n a word) = 0
 steps_of (StartAt n a) = 0
 
--- how many steps entries have
+-- how many steps some entries have
 abbrev pub steps_in : List Entry → ℕ
 steps_in [] = 0
 steps_in (e ∷ es) = steps_of e + steps_in es

@@ -1,38 +1,38 @@
-//! What has happened to a machine, as entries.
+//! What has happened to a machine, as a list of entries.
 ghost use Rattle.std.specs.Prelude.{◌≡◌};
 ghost use Rattle.ddt_timeline.specs.Timelines.{made, played, ticked_so_often};
 
-use monitor::{Answer, Event};
 use concrete_machine::Machine;
+use monitor::{Answer, Event};
 use tty_lines::Char7;
 use word36::{Address, Image, TAKEN_AT_ONCE, Word};
 
-/// What has happened to a machine: so many steps, one event, or a change that is no event.
+/// What has happened to a machine: some steps, an event, or a change by a debugger that is no event.
 #[derive(Drop)]
 pub enum Entry {
-    /// So many steps, with a tick behind each.
+    /// So many steps, each followed by a tick.
     Rounds(u32),
-    /// A job begins at a line with an image.
+    /// A program was logged in at a line.
     Login(u8, Image),
-    /// A job starts.
+    /// A job was started.
     Start(u8),
-    /// A job goes on.
+    /// A job was continued.
     Continue(u8),
-    /// A job is gone.
+    /// A job was killed.
     Kill(u8),
-    /// A character is typed at a line.
+    /// A character was typed at a line.
     Typed(u8, Char7),
-    /// 64 characters at most leave the front of a line's output.
+    /// At most 64 characters were taken from a line's output.
     Take(u8),
     /// So many ticks.
     Ticks(u32),
-    /// A word is put at a place of a job. It is no event; where the job has no such place nothing changes.
+    /// A word was deposited at an address of a job, which is no event. Nothing changes where the job has no word there.
     Deposit(u8, u32, Word),
-    /// A job starts, and its PC is put at a place.
+    /// A job was started at an address.
     StartAt(u8, Address),
 }
 
-/// So many ticks, one after the other.
+/// Lets so many ticks go by.
 fn tick(machine: &mut Machine, count: u32)
     ensures { machine.new ≡ ticked_so_often count machine.old }
 {
@@ -43,7 +43,7 @@ fn tick(machine: &mut Machine, count: u32)
     }
 }
 
-/// Makes an entry happen, and gives the machine's answer; that to steps, ticks and a deposit is Done.
+/// Makes an entry happen, and gives the answer of the machine: `Done` to steps, ticks and a deposit.
 pub fn perform(machine: &mut Machine, entry: &Entry) -> Answer
     ensures { machine.new ≡ made machine.old entry.now }
 {
@@ -56,11 +56,11 @@ pub fn perform(machine: &mut Machine, entry: &Entry) -> Answer
             tick(machine, *count);
             return Answer::Done;
         }
-        Entry::Deposit(number, place, word) => {
-            machine.deposit(*number, *place, *word);
+        Entry::Deposit(number, address, word) => {
+            machine.deposit(*number, *address, *word);
             return Answer::Done;
         }
-        Entry::StartAt(number, place) => return machine.start_at(*number, *place),
+        Entry::StartAt(number, address) => return machine.start_at(*number, *address),
         Entry::Login(line, image) => Event::Login(*line, image),
         Entry::Start(number) => Event::Start(*number),
         Entry::Continue(number) => Event::Continue(*number),

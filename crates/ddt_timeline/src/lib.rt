@@ -1,4 +1,4 @@
-//! A session of the debugger: a machine whose steps can be taken back.
+//! A machine with all that has happened to it, whose steps can be taken back, and runs of it up to a stop.
 #![tactic(auto)]
 
 mod entries;
@@ -6,5 +6,5 @@ mod stops;
 mod timeline;
 
 pub use entries::{Entry, perform, play};
-pub use stops::{LookedAt, NoWatch, Ran, Stop, Watch, round, run_until, some_go_on};
+pub use stops::{NoWatch, Run, Stop, Watch, WatchedStop, round, run_until, some_go_on, stands_at};
 pub use timeline::{Timeline, let_go};

@@ -4,25 +4,27 @@ ghost use Rattle.std.specs.Prelude.{◌≡◌, ◌+◌, ◌-◌, ◌<◌, ◌≤
 ghost use Rattle.machine.specs.Machine.{after};
 ghost use Rattle.machine.specs.Rounds.{rounds};
 ghost use Rattle.machine.specs.Between.{is_among, next_in};
-ghost use Rattle.ddt_timeline.specs.Stops.{ran_of, round, is_at, is_at_one_of, is_input, is_met, is_met_at, is_within};
-ghost use Rattle.ddt_timeline.specs.Stops.{is_word, looked, met_after, stands_at, waits_for_input, waits_in_circle};
+ghost use Rattle.ddt_timeline.specs.Stops.{ran_of, round, has_ended, has_pc, is_at, is_at_one_of, is_input, is_met, is_met_at, is_within};
+ghost use Rattle.ddt_timeline.specs.Stops.{is_word, noted, met_after, stands_at, waits_for_input, waits_in_circle};
 ghost use Rattle.machine.specs.Views.{job_view};
 
+use concrete_machine::Machine;
 use job_sched::Wait;
 use monitor::{Answer, Event};
-use run_facts::is_in_circle;
-use concrete_machine::Machine;
+use wait_graph::is_in_circle;
 use word36::{Address, Image, JOBS, Word};
 
 /// Where a run stops.
 #[derive(Clone, Copy)]
 pub enum Stop {
-    /// A job came to a place: it stands there, and had its turn or stood elsewhere before, as where a time
-    /// limit ends and a tick puts its PC to the error return.
-    Place(u8, Address),
+    /// A job came to an address: it stands there and is not stopped, and it had its turn, or its PC was elsewhere before, as
+    /// where a time limit ends and a tick puts the PC to the error return.
+    At(u8, Address),
     /// A job had its turn.
     Turn(u8),
-    /// A word of a job is another than this one, which is `None` where it is not legal.
+    /// A job had its turn, and is stopped by it or gone.
+    End(u8),
+    /// The word of a job at an address is no longer this one, which is `None` where the address is not legal.
     Word(u8, u32, Option<Word>),
     /// A job had its turn and waits in a circle of jobs that wait for each other.
     Circle,
@@ -30,52 +32,52 @@ pub enum Stop {
     Input,
 }
 
-/// A stop that a run is looked at for.
+/// A stop, and whether its job stood there before this round.
 #[derive(Clone, Copy)]
-pub struct LookedAt {
+pub struct WatchedStop {
     /// The stop.
     pub stop: Stop,
-    /// Whether it is at a place and its job stood there before the round.
+    /// Whether it is at an address where the PC of its job was before this round.
     pub stood: bool,
 }
 
-/// What else a run is looked at for behind each of its rounds.
+/// What else may end a run after one of its rounds.
 pub trait Watch {
     /// Whether it looks at each round; where it does not, many rounds may be made at once.
-    fn is_asked(&self) -> bool;
+    fn looks_at_rounds(&self) -> bool;
 
-    /// Whether the run ends behind a round in which this job ran, if one did.
-    fn is_met(&mut self, machine: &Machine, ran: Option<u8>) -> bool;
+    /// Whether the run ends after a round in which this job ran, if one did.
+    fn ends_run(&mut self, machine: &Machine, ran: Option<u8>) -> bool;
 }
 
-/// Nothing else.
+/// A watch that ends no run.
 #[derive(Clone, Copy)]
 pub struct NoWatch;
 
 impl Watch for NoWatch {
     #[inline(always)]
-    fn is_asked(&self) -> bool {
+    fn looks_at_rounds(&self) -> bool {
         false
     }
 
     #[inline(always)]
-    fn is_met(&mut self, _machine: &Machine, _ran: Option<u8>) -> bool {
+    fn ends_run(&mut self, _machine: &Machine, _ran: Option<u8>) -> bool {
         false
     }
 }
 
-/// A run that was made.
+/// A run of steps, and what ended it.
 #[derive(Clone, Copy)]
-pub struct Ran {
-    /// How many steps, each with a tick behind it.
+pub struct Run {
+    /// How many steps were made, each followed by a tick.
     pub made: u32,
     /// Which of the stops ended it, if one did.
     pub stop: Option<usize>,
-    /// Whether what else it was looked at for ended it.
-    pub is_watched: bool,
+    /// Whether the watch ended it.
+    pub by_watch: bool,
 }
 
-/// The job that a step's answer names.
+/// The job that ran, by the answer to a step.
 fn ran_of(answer: &Answer) -> Option<u8>
     ensures { result ≡ ran_of answer.now }
 {
@@ -85,7 +87,7 @@ fn ran_of(answer: &Answer) -> Option<u8>
     }
 }
 
-/// A step with a tick behind it, and the job that ran.
+/// Makes a step and a tick, and gives the job that ran.
 #[inline(always)]
 #[tactic(auto, using(crate::proofs::RunLemmas::ran_stepped))]
 pub fn round(machine: &mut Machine) -> Option<u8>
@@ -99,7 +101,7 @@ pub fn round(machine: &mut Machine) -> Option<u8>
     ran_of(&answer)
 }
 
-/// Whether two places have the same word, or both none.
+/// Whether two words are equal, or both missing.
 fn is_word(word: Option<Word>, other: Option<Word>) -> bool
     ensures { result ≡ is_word word other }
 {
@@ -139,50 +141,73 @@ fn waits_for_input(machine: &Machine, job: u8) -> bool
     }
 }
 
-/// Whether a job stands at a place.
+/// Whether the PC of a job is at an address.
 #[inline(always)]
-fn stands_at(machine: &Machine, job: u8, place: Address) -> bool
-    ensures { result ≡ stands_at (job_view machine.now.world job) place }
+fn has_pc(machine: &Machine, job: u8, address: Address) -> bool
+    ensures { result ≡ has_pc (job_view machine.now.world job) address }
 {
     match machine.job(job) {
-        Some(view) => view.pc == place,
+        Some(view) => view.pc == address,
         None => false,
     }
 }
 
-/// Whether a stop is at a place and its job stands there.
+/// Whether a job stands at an address: its PC is there, and it is not stopped.
+#[inline(always)]
+pub fn stands_at(machine: &Machine, job: u8, address: Address) -> bool
+    ensures { result ≡ stands_at (job_view machine.now.world job) address }
+{
+    match machine.job(job) {
+        Some(view) => view.stop.is_none() && view.pc == address,
+        None => false,
+    }
+}
+
+/// Whether a job is stopped, or gone.
+#[inline(always)]
+fn has_ended(machine: &Machine, job: u8) -> bool
+    ensures { result ≡ has_ended (job_view machine.now.world job) }
+{
+    match machine.job(job) {
+        Some(view) => view.stop.is_some(),
+        None => true,
+    }
+}
+
+/// Whether a stop is at an address where the PC of its job is.
 #[inline(always)]
 fn is_at(machine: &Machine, stop: &Stop) -> bool
     ensures { result ≡ is_at machine.now stop.now }
 {
     match *stop {
-        Stop::Place(job, place) => stands_at(machine, job, place),
+        Stop::At(job, address) => has_pc(machine, job, address),
         _ => false,
     }
 }
 
-/// Notes at which of the stops jobs stand now.
+/// Notes for each stop whether the PC of its job is at its address now.
 #[inline(always)]
-fn look(machine: &Machine, stops: &mut [LookedAt])
-    ensures { stops.new ≡ map (looked machine.now) stops.old }
+fn note_stood(machine: &Machine, stops: &mut [WatchedStop])
+    ensures { stops.new ≡ map (noted machine.now) stops.old }
 {
     for one in stops.iter_mut() {
         one.stood = is_at(machine, &one.stop);
     }
 }
 
-/// Whether a stop holds after a round in which a job ran, where `stood` says whether its job stood at its
-/// place before.
+/// Whether a stop holds after a round in which a job ran, where `stood` says whether the PC of its job was at its address
+/// before.
 #[inline(always)]
 fn is_met(machine: &Machine, ran: Option<u8>, stop: &Stop, stood: bool) -> bool
     ensures { result ≡ is_met stood machine.now ran stop.now }
 {
     match *stop {
-        Stop::Place(job, place) => {
-            stands_at(machine, job, place) && (ran == Some(job) || !stood)
+        Stop::At(job, address) => {
+            stands_at(machine, job, address) && (ran == Some(job) || !stood)
         }
         Stop::Turn(job) => ran == Some(job),
-        Stop::Word(job, place, word) => !is_word(machine.peek(job, place), word),
+        Stop::End(job) => ran == Some(job) && has_ended(machine, job),
+        Stop::Word(job, address, word) => !is_word(machine.peek(job, address), word),
         Stop::Circle => match ran {
             Some(job) => waits_in_circle(machine, job),
             None => false,
@@ -196,7 +221,7 @@ fn is_met(machine: &Machine, ran: Option<u8>, stop: &Stop, stood: bool) -> bool
 
 /// The first of some stops that holds after a round in which a job ran.
 #[inline(always)]
-fn first_met(machine: &Machine, ran: Option<u8>, stops: &[LookedAt]) -> Option<usize>
+fn first_met(machine: &Machine, ran: Option<u8>, stops: &[WatchedStop]) -> Option<usize>
     ensures { result ≡ position (is_met_at machine.now ran) stops.now }
 {
     for (i, one) in stops.iter().enumerate() {
@@ -223,7 +248,7 @@ fn goes_on(machine: &Machine, number: u8) -> bool {
     }
 }
 
-/// Whether any job can.
+/// Whether any job can go on now, or will by ticks alone.
 #[inline(never)]
 pub fn some_go_on(machine: &Machine) -> bool {
     for number in 1..JOBS + 1 {
@@ -234,98 +259,98 @@ pub fn some_go_on(machine: &Machine) -> bool {
     false
 }
 
-/// Whether a place is one of some.
-fn is_among(places: &[Address], place: Address) -> bool
-    ensures { result ≡ is_among places.now place }
+/// Whether an address is one of some.
+fn is_among(addresses: &[Address], address: Address) -> bool
+    ensures { result ≡ is_among addresses.now address }
 {
-    for one in places {
-        if *one == place {
+    for one in addresses {
+        if *one == address {
             return true;
         }
     }
     false
 }
 
-/// Whether a stop is at one of some places.
-fn is_at_one_of(places: &[Address], stop: &Stop) -> bool
-    ensures { result ≡ is_at_one_of places.now stop.now }
+/// Whether a stop is at an address, and that is one of some.
+fn is_at_one_of(addresses: &[Address], stop: &Stop) -> bool
+    ensures { result ≡ is_at_one_of addresses.now stop.now }
 {
     match *stop {
-        Stop::Place(_, place) => is_among(places, place),
+        Stop::At(_, address) => is_among(addresses, address),
         _ => false,
     }
 }
 
-/// Whether all stops are at some of these places.
-fn are_within(places: &[Address], stops: &[LookedAt]) -> bool
-    ensures { result ≡ list_all (is_within places.now) stops.now }
+/// Whether all stops are at addresses, which are among these.
+fn are_within(addresses: &[Address], stops: &[WatchedStop]) -> bool
+    ensures { result ≡ list_all (is_within addresses.now) stops.now }
 {
     for one in stops {
-        if !is_at_one_of(places, &one.stop) {
+        if !is_at_one_of(addresses, &one.stop) {
             return false;
         }
     }
     true
 }
 
-/// How many rounds may be made at once: as many as there can be where all stops are at some of these
-/// places and nothing else is looked at behind each round, and otherwise one.
-fn most_at_once(places: &[Address], stops: &[LookedAt], is_watched: bool) -> u32
+/// How many rounds may be made at once: any number where all stops are at some of these addresses and no watch looks at each
+/// round, and one otherwise.
+fn most_at_once(addresses: &[Address], stops: &[WatchedStop], is_watched: bool) -> u32
     ensures least { 1 ≤ result }
-    ensures many { 2 ≤ result → list_all (is_within places.now) stops.now ≡ true }
+    ensures many { 2 ≤ result → list_all (is_within addresses.now) stops.now ≡ true }
 {
-    if !is_watched && are_within(places, stops) {
+    if !is_watched && are_within(addresses, stops) {
         u32::MAX
     } else {
         1
     }
 }
 
-/// Whether a run that came so far may go on: nothing has ended it, and more steps may be made.
+/// Whether a run may go on: nothing has ended it, and it has made fewer steps than it may.
 #[inline(always)]
-fn may_go_on(ran: &Ran, most: u32) -> bool
+fn may_go_on(ran: &Run, most: u32) -> bool
     ensures stop { result ≡ true → ran.now.stop ≡ None }
     ensures few { result ≡ true → ran.now.made < most }
 {
-    ran.stop.is_none() && !ran.is_watched && ran.made < most
+    ran.stop.is_none() && !ran.by_watch && ran.made < most
 }
 
-/// Makes steps, each with a tick behind it, until a stop holds, so many are made, no job can go on, or
-/// what else is looked at ends the run. Where all stops are at these places and nothing else is looked
-/// at, the rounds of a job are made at once up to the first that leaves it at one of them.
+/// Makes steps, each followed by a tick, until a stop holds, the watch ends the run, no job can go on, or `most` are made.
+/// Where all stops are at these addresses and no watch looks at each round, the rounds of a job are made at once, up to the
+/// first that leaves its PC at one of them.
 pub fn run_until<W: Watch>(
     machine: &mut Machine,
-    stops: &mut [LookedAt],
-    places: &[Address],
+    stops: &mut [WatchedStop],
+    addresses: &[Address],
     most: u32,
     watch: &mut W,
-) -> Ran
+) -> Run
     ensures state { machine.new ≡ after (rounds result.made true) machine.old }
     ensures most { result.made ≤ most }
     ensures none_over { (k : ℕ) → k + 1 < result.made → met_after stops.old (after (rounds k true) machine.old) ≡ None }
     ensures last { OnSome result.stop (result.stop ≡ met_after stops.old (after (rounds (result.made - 1) true) machine.old)) }
 {
-    let at_once = most_at_once(places, stops, watch.is_asked());
-    let mut ran = Ran {
+    let at_once = most_at_once(addresses, stops, watch.looks_at_rounds());
+    let mut ran = Run {
         made: 0,
         stop: None,
-        is_watched: false,
+        by_watch: false,
     };
     let mut is_sure = false;
-    look(machine, stops);
+    note_stood(machine, stops);
     while may_go_on(&ran, most) {
         if !is_sure && !some_go_on(machine) {
             break;
         }
-        let rounds = machine.rounds_to(at_once.min(most - ran.made), places);
+        let rounds = machine.rounds_to(at_once.min(most - ran.made), addresses);
         ran.made += rounds.made;
         ran.stop = first_met(machine, rounds.job, stops);
-        ran.is_watched = ran.stop.is_none() && watch.is_met(machine, rounds.job);
+        ran.by_watch = ran.stop.is_none() && watch.ends_run(machine, rounds.job);
         is_sure = match rounds.job {
             Some(number) => goes_on(machine, number),
             None => false,
         };
-        look(machine, stops);
+        note_stood(machine, stops);
     }
     ran
 }

@@ -5,17 +5,17 @@ ghost use Rattle.machine.specs.Machine.{at_boot};
 ghost use Rattle.ddt_timeline.specs.Timelines.{made, reached, steps_in, steps_of};
 
 use crate::entries::{Entry, perform, play};
-use crate::stops::{LookedAt, Ran, Watch, run_until};
-use monitor::{Answer, Config};
+use crate::stops::{Run, Watch, WatchedStop, run_until};
 use concrete_machine::Machine;
+use monitor::{Answer, Config};
 use std::alloc::{AllocError, Global};
 use std::mem;
 use word36::Address;
 
 /// A machine with all that has happened to it.
 ///
-/// The machine stands where so many whole entries have happened, and so many steps more. What stands
-/// behind was made before `.BACK`, and is forgotten as soon as something else happens.
+/// `whole` entries have happened to the machine, and `part` steps after them. The entries behind these happened before the
+/// machine was put back, and are forgotten as soon as something else happens.
 #[derive(Drop)]
 pub struct Timeline {
     alloc: Global,
@@ -46,9 +46,8 @@ fn ticks_of(entry: &Entry) -> u32 {
     }
 }
 
-/// Where so many of the entries' steps were made and the next is to be made: behind how many whole
-/// entries, and how many steps more. `None` where the entries have fewer.
-fn place_of(entries: &[Entry], steps: u64) -> Option<(usize, u32)>
+/// How many whole entries, and how many steps after them, come to so many steps. `None` where the entries have fewer.
+fn position_of(entries: &[Entry], steps: u64) -> Option<(usize, u32)>
     ensures within { IfSome result (λ p. p.0 ≤ length entries.now) }
     ensures count { IfSome result (λ p. steps_in (take p.0 entries.now) + p.1 ≡ steps) }
 {
@@ -66,7 +65,7 @@ fn place_of(entries: &[Entry], steps: u64) -> Option<(usize, u32)>
     Some((entries.len(), 0))
 }
 
-/// The first of some entries, so many.
+/// The first so many of some entries.
 fn beginning(entries: &Vec<Entry>, count: usize) -> &[Entry]
     requires { count ≤ length entries.now.items }
     ensures { result.now ≡ take count entries.now.items }
@@ -74,7 +73,7 @@ fn beginning(entries: &Vec<Entry>, count: usize) -> &[Entry]
     &entries.as_slice()[..count]
 }
 
-/// Lets a machine go, and gives back the memory that it has.
+/// Gives back the memory of a machine.
 pub fn let_go(machine: Machine) {}
 
 impl Timeline {
@@ -103,7 +102,7 @@ impl Timeline {
         &self.machine
     }
 
-    /// How many steps were made.
+    /// How many steps have been made.
     pub fn steps(&self) -> u64 {
         let mut steps = u64::from(self.part);
         for entry in self.entries() {
@@ -112,7 +111,7 @@ impl Timeline {
         steps
     }
 
-    /// How many ticks went by.
+    /// How many ticks have gone by.
     pub fn ticks(&self) -> u64 {
         let mut ticks = u64::from(self.part);
         for entry in self.entries() {
@@ -121,7 +120,7 @@ impl Timeline {
         ticks
     }
 
-    /// How many entries have happened.
+    /// How many whole entries have happened.
     pub fn happened(&self) -> usize {
         self.whole
     }
@@ -136,15 +135,16 @@ impl Timeline {
         beginning(&self.entries, self.whole)
     }
 
-    /// How many steps were made behind those.
+    /// How many steps have been made after the whole entries.
     pub fn part(&self) -> u32 {
         self.part
     }
 
-    /// Makes an entry of the steps behind the last one.
+    /// Makes an entry of the steps after the last one.
     fn settle(&mut self) -> Result<(), AllocError>
         ensures machine { self.new.machine ≡ self.old.machine }
-        ensures end { OnOk result (self.old.whole ≡ length self.old.entries.items → (self.new.whole ≡ length self.new.entries.items) × (self.new.part ≡ 0)) }
+        ensures end { OnOk result (self.old.whole ≡ length self.old.entries.items
+            → (self.new.whole ≡ length self.new.entries.items) × (self.new.part ≡ 0)) }
     {
         if self.whole == self.entries.len() && self.part > 0 {
             self.entries.push(Entry::Rounds(self.part))?;
@@ -154,7 +154,7 @@ impl Timeline {
         Ok(())
     }
 
-    /// Forgets what stands behind.
+    /// Forgets what happened before the machine was put back.
     fn cut(&mut self) -> Result<(), AllocError>
         ensures machine { self.new.machine ≡ self.old.machine }
         ensures last { OnOk result ((self.new.whole ≡ length self.new.entries.items) × (self.new.part ≡ 0)) }
@@ -163,7 +163,7 @@ impl Timeline {
         self.settle()
     }
 
-    /// Makes an entry happen, and forgets what stood behind.
+    /// Makes an entry happen, and forgets what happened before the machine was put back.
     pub fn make(&mut self, entry: Entry) -> Result<Answer, AllocError>
         ensures { OnOk result (self.new.machine ≡ made self.old.machine entry) }
     {
@@ -174,22 +174,22 @@ impl Timeline {
         Ok(answer)
     }
 
-    /// Makes steps until a stop holds, so many are made, no job can go on, or what else is looked at ends
-    /// the run, and forgets what stood behind. The places are those of the stops at places.
+    /// Makes steps until a stop holds, the watch ends the run, no job can go on, or `most` are made, and forgets what happened
+    /// before the machine was put back. The addresses are those of the stops at addresses.
     pub fn run<W: Watch>(
         &mut self,
-        stops: &mut [LookedAt],
-        places: &[Address],
+        stops: &mut [WatchedStop],
+        addresses: &[Address],
         most: u32,
         watch: &mut W,
-    ) -> Result<Ran, AllocError> {
+    ) -> Result<Run, AllocError> {
         self.cut()?;
-        let ran = run_until(&mut self.machine, stops, places, most, watch);
+        let ran = run_until(&mut self.machine, stops, addresses, most, watch);
         self.part = ran.made;
         Ok(ran)
     }
 
-    /// Puts the machine where so many whole entries have happened, and so many steps more.
+    /// Puts the machine where so many whole entries have happened, and so many steps after them.
     fn go_to(&mut self, whole: usize, part: u32) -> Result<(), AllocError>
         requires { whole ≤ length self.old.entries.items }
         ensures entries { self.new.entries.items ≡ self.old.entries.items }
@@ -204,20 +204,21 @@ impl Timeline {
         Ok(())
     }
 
-    /// Puts the machine where so many steps have been made; false where there are fewer. What has
+    /// Puts the machine where so many steps have been made; false, and the machine stays, where there are fewer. What has
     /// happened is kept.
     pub fn put_back(&mut self, steps: u64) -> Result<bool, AllocError>
-        ensures there { IfOk result (λ has_so_many. has_so_many ≡ true → steps_in (take self.new.whole self.new.entries.items) + self.new.part ≡ steps) }
+        ensures there { IfOk result (λ has_so_many. has_so_many ≡ true
+            → steps_in (take self.new.whole self.new.entries.items) + self.new.part ≡ steps) }
     {
         self.settle()?;
-        let Some((whole, part)) = place_of(self.entries.as_slice(), steps) else {
+        let Some((whole, part)) = position_of(self.entries.as_slice(), steps) else {
             return Ok(false);
         };
         self.go_to(whole, part)?;
         Ok(true)
     }
 
-    /// Puts the machine where all that is kept has happened.
+    /// Puts the machine where all entries that are kept have happened.
     pub fn forward(&mut self) -> Result<(), AllocError> {
         self.settle()?;
         let whole = self.entries.len();

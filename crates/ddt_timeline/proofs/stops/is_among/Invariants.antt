@@ -3,4 +3,4 @@ use Rattle.machine.specs.Between.{is_among}
 use Rattle.ddt_timeline.proofs.stops.is_among.Given as goal
 
 abbrev pub invariant-loop-one : goal.invariant-loop-one
-invariant-loop-one l = is_among (drop l.one-index l.places) l.place ≡ is_among l.places l.place
+invariant-loop-one l = is_among (drop l.one-index l.addresses) l.address ≡ is_among l.addresses l.address

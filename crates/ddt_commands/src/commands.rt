@@ -1,0 +1,149 @@
+//! The commands of the debugger.
+
+use word36::Word;
+
+/// How the debugger shows a word.
+#[derive(Clone, Copy)]
+pub enum OutputMode {
+    /// As an instruction, with symbols: `$S`.
+    Symbolic,
+    /// As a number in octal: `$C`.
+    Octal,
+    /// As text: `$T`.
+    Text,
+    /// As two halves: `$H`.
+    Halves,
+    /// As a number of this radix, 2 to 16: `$nR`.
+    Radix(u8),
+}
+
+/// In which mode the last quantity is shown once more.
+#[derive(Clone, Copy)]
+pub enum Retype {
+    /// In octal: `=`.
+    Octal,
+    /// As an instruction: `_`.
+    Symbolic,
+    /// As text: `;`.
+    Text,
+}
+
+impl Retype {
+    /// The mode in which the last quantity is shown.
+    pub fn mode(self) -> OutputMode {
+        match self {
+            Retype::Octal => OutputMode::Octal,
+            Retype::Symbolic => OutputMode::Symbolic,
+            Retype::Text => OutputMode::Text,
+        }
+    }
+}
+
+/// Which words a search finds.
+#[derive(Clone, Copy)]
+pub enum SearchKind {
+    /// Those that equal the value under the mask: `$W`.
+    Equal,
+    /// Those that differ from it: `$N`.
+    NotEqual,
+    /// Those whose effective address is the value: `$E`.
+    Address,
+}
+
+/// A search.
+#[derive(Clone, Copy)]
+pub struct Search {
+    /// Which words it finds.
+    pub kind: SearchKind,
+    /// The value that words are compared with.
+    pub value: Word,
+    /// The bits that are compared.
+    pub mask: Word,
+}
+
+/// A command, with all its values computed. Each number is an address of the open job where nothing else is said.
+#[derive(Clone, Copy)]
+pub enum Command<'a> {
+    /// `; text`: a remark, which does nothing.
+    Remark,
+    /// An empty line: opens the next address.
+    Next,
+    /// `^`: opens the address before.
+    Previous,
+    /// A tab: opens the address in the right half of the last quantity.
+    Addressed,
+    /// `a/`: opens an address.
+    Open(u32),
+    /// A value: deposits it at the open address.
+    Deposit(Word),
+    /// `value=`: shows a value.
+    Evaluate(Word),
+    /// `$S` and the like: sets the mode in which words are shown.
+    SetMode(OutputMode),
+    /// `=`, `_` or `;`: shows the last quantity once more.
+    Retype(Retype),
+    /// `a$B` or `a$nB`: sets a breakpoint, that of number n, 1 to 8, or a free one.
+    SetBreakpoint(u32, Option<u8>),
+    /// `0$nB`: clears breakpoint n, 1 to 8.
+    ClearBreakpoint(u8),
+    /// `$B`: lists the breakpoints and what else stops a run.
+    ListStops,
+    /// `$G`: starts the jobs that were not started, or the open one again, and runs.
+    Go,
+    /// `a$G`: starts the open job at an address, and runs.
+    GoAt(u32),
+    /// `n$P`: lets the jobs go on up to the n-th breakpoint.
+    Proceed(u32),
+    /// `n$X`: executes n instructions of the open job.
+    Execute(u32),
+    /// `$$X`: lets the open job go on until its call returns.
+    ExecuteCall,
+    /// `value<mask>$W`, `$N` or `$E`: searches the core of the open job.
+    Search(Search),
+    /// `.JOB n`: opens job n, 1 to 63.
+    Job(u8),
+    /// `.JOBS`: lists the jobs.
+    Jobs,
+    /// `.LOCKS`: lists the requests for locks.
+    Locks,
+    /// `.WAITS`: lists who waits for whom.
+    Waits,
+    /// `.REGS`: shows the accumulators and the PC.
+    Registers,
+    /// `.TICK n`: lets n ticks go by.
+    Tick(u32),
+    /// `.TYPE line text`: types a text and a line end at a terminal line, 0 to 63.
+    Type(u8, &'a [u8]),
+    /// `.TAKE`: shows what jobs have typed out.
+    Take,
+    /// `.STEP n`: makes n steps of the machine.
+    Step(u32),
+    /// `.BACK n`: goes n steps back.
+    Back(u64),
+    /// `.BACK TO a`: goes back to where the open job last stood at an address.
+    BackTo(u32),
+    /// `.BACK WRITE a`: goes back to before the step that last changed a word.
+    BackWrite(u32),
+    /// `.FORWARD`: goes to where `.BACK` was typed.
+    Forward,
+    /// `.WATCH a`: watches a word, or no longer.
+    Watch(u32),
+    /// `.BREAK LOCK name`: stops runs before calls on that lock, or no longer.
+    BreakLock(&'a [u8]),
+    /// `.BREAK GRANT`: stops runs where a request is granted, or no longer.
+    BreakGrant,
+    /// `.BREAK CIRCLE`: stops runs where jobs wait in a circle, or no longer.
+    BreakCircle,
+    /// `.EX a-b`: shows the words from the first address to the last.
+    Examine(u32, u32),
+    /// `.HISTORY n`: shows the last n turns of the open job.
+    History(u32),
+    /// `.SAVE file`: writes the lines of the session to a file.
+    Save(&'a [u8]),
+    /// `.DO file`: obeys the lines of a file.
+    Do(&'a [u8]),
+    /// `.HELP` or `.HELP word`: lists the commands, or those in which the word stands.
+    Help(&'a [u8]),
+    /// `.QUIT`: ends the session.
+    Quit,
+}

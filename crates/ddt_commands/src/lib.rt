@@ -1,0 +1,19 @@
+//! How a typed line becomes a command of the debugger, in the manner of DDT, or what is wrong with it.
+#![tactic(auto)]
+
+mod characters;
+mod commands;
+mod dot_commands;
+mod line_errors;
+mod lines;
+mod numbers;
+mod reader;
+mod refusals;
+mod values;
+
+pub use characters::{Codes, ascii_codes, sixbit_codes};
+pub use commands::{Command, OutputMode, Retype, Search, SearchKind};
+pub use line_errors::LineError;
+pub use lines::read_line;
+pub use refusals::Refusal;
+pub use values::{Scope, Symbol};

@@ -1,0 +1,178 @@
+//! Whole lines, each read as a command.
+
+use crate::commands::{Command, OutputMode, Retype, Search, SearchKind};
+use crate::dot_commands::read_dot_command;
+use crate::line_errors::LineError;
+use crate::numbers::{decimal, octal};
+use crate::reader::{cut_at, cut_at_last};
+use crate::values::{Scope, read_address, read_value};
+use word36::Word;
+
+/// How many breakpoints there are.
+const BREAKPOINTS: u8 = 8;
+
+/// The largest number before `$P` and `$X`, 10000 octal.
+const MOST_TIMES: u64 = 0o10000;
+
+/// A command of `$`, as DDT's ESC is typed, cut into its parts.
+#[derive(Clone, Copy)]
+struct Escaped<'a> {
+    /// The whole line.
+    text: &'a [u8],
+    /// What stands before the last `$`.
+    before: &'a [u8],
+    /// The digits behind it.
+    digits: &'a [u8],
+    /// The letter behind them, in upper case.
+    letter: u8,
+}
+
+/// Whether all characters are decimal digits.
+fn are_digits(text: &[u8]) -> bool {
+    for byte in text {
+        if !byte.is_ascii_digit() {
+            return false;
+        }
+    }
+    true
+}
+
+/// Cuts a line at its last `$`, where digits and a letter, and nothing else, stand behind it.
+fn cut_at_escape(text: &[u8]) -> Option<Escaped<'_>> {
+    let (before, behind) = cut_at_last(text, b'$')?;
+    match behind {
+        [digits @ .., letter] if letter.is_ascii_alphabetic() && are_digits(digits) => {
+            Some(Escaped {
+                text,
+                before,
+                digits,
+                letter: letter.to_ascii_uppercase(),
+            })
+        }
+        _ => None,
+    }
+}
+
+/// Reads `$B`, `a$B`, `a$nB` and `0$nB`.
+fn read_breakpoint<'a>(line: Escaped<'_>, scope: &Scope<'_>) -> Result<Command<'a>, LineError> {
+    let number = match decimal(line.digits) {
+        Some(number) if 1 <= number && number <= u64::from(BREAKPOINTS) => Some(number as u8),
+        None if line.digits.is_empty() => None,
+        _ => return Err(LineError::NoBreakpoint),
+    };
+    if line.before.is_empty() {
+        return match number {
+            None => Ok(Command::ListStops),
+            Some(_) => Err(LineError::NoAddress),
+        };
+    }
+    let address = read_address(line.before, scope)?;
+    match number {
+        Some(number) if address == 0 => Ok(Command::ClearBreakpoint(number)),
+        _ => Ok(Command::SetBreakpoint(address, number)),
+    }
+}
+
+/// Reads `n$P`, `n$X` and `$$X`; n is 1 where it is left out.
+fn read_run<'a>(line: Escaped<'_>) -> Result<Command<'a>, LineError> {
+    if line.letter == b'X' && line.before == b"$".as_slice() {
+        return Ok(Command::ExecuteCall);
+    }
+    let times = match line.before {
+        [] => Some(1),
+        [digits @ .., b'.'] => decimal(digits),
+        digits => match octal(digits) {
+            Some(word) => Some(word.number()),
+            None => None,
+        },
+    };
+    match times {
+        Some(times) if 1 <= times && times <= MOST_TIMES => {
+            if line.letter == b'P' {
+                Ok(Command::Proceed(times as u32))
+            } else {
+                Ok(Command::Execute(times as u32))
+            }
+        }
+        _ => Err(LineError::NoTimes),
+    }
+}
+
+/// Reads a search, `value<mask>$W` or `value$W`; so with `$N` and `$E`.
+fn read_search<'a>(line: Escaped<'_>, scope: &Scope<'_>) -> Result<Command<'a>, LineError> {
+    let (before, mask) = match line.before {
+        [front @ .., b'>'] => match cut_at(front, b'<') {
+            Some((before, mask)) => (before, read_value(mask, scope)?),
+            None => return Err(LineError::NoMask),
+        },
+        before => (before, Word::new(0).not()),
+    };
+    let value = read_value(before, scope)?;
+    let kind = match line.letter {
+        b'W' => SearchKind::Equal,
+        b'N' => SearchKind::NotEqual,
+        _ => SearchKind::Address,
+    };
+    Ok(Command::Search(Search { kind, value, mask }))
+}
+
+/// Reads a value to deposit.
+fn read_deposit<'a>(text: &[u8], scope: &Scope<'_>) -> Result<Command<'a>, LineError> {
+    Ok(Command::Deposit(read_value(text, scope)?))
+}
+
+/// Reads a command of `$`, or a value where its letter is that of no command.
+fn read_escaped<'a>(line: Escaped<'_>, scope: &Scope<'_>) -> Result<Command<'a>, LineError> {
+    let is_alone = line.before.is_empty() && line.digits.is_empty();
+    match line.letter {
+        b'B' => read_breakpoint(line, scope),
+        b'G' if is_alone => Ok(Command::Go),
+        b'G' if line.digits.is_empty() => Ok(Command::GoAt(read_address(line.before, scope)?)),
+        b'G' => Err(LineError::NoEscape),
+        b'P' | b'X' => read_run(line),
+        b'W' | b'N' | b'E' => read_search(line, scope),
+        b'R' if line.before.is_empty() => match decimal(line.digits) {
+            Some(radix) if 2 <= radix && radix <= 16 => {
+                Ok(Command::SetMode(OutputMode::Radix(radix as u8)))
+            }
+            _ => Err(LineError::NoRadix),
+        },
+        b'S' if is_alone => Ok(Command::SetMode(OutputMode::Symbolic)),
+        b'C' if is_alone => Ok(Command::SetMode(OutputMode::Octal)),
+        b'T' if is_alone => Ok(Command::SetMode(OutputMode::Text)),
+        b'H' if is_alone => Ok(Command::SetMode(OutputMode::Halves)),
+        _ => read_deposit(line.text, scope),
+    }
+}
+
+/// Reads `a/`, `value=`, a command of `$`, or a value to deposit.
+fn read_value_line<'a>(text: &[u8], scope: &Scope<'_>) -> Result<Command<'a>, LineError> {
+    match text {
+        [front @ .., b'/'] => Ok(Command::Open(read_address(front, scope)?)),
+        [front @ .., b'='] => Ok(Command::Evaluate(read_value(front, scope)?)),
+        _ => match cut_at_escape(text) {
+            Some(line) => read_escaped(line, scope),
+            None => read_deposit(text, scope),
+        },
+    }
+}
+
+/// Reads a line, without its end, as a command, or tells what is wrong with it. Numbers are octal, and decimal with a point
+/// behind them; those of dot commands are decimal.
+pub fn read_line<'a>(line: &'a [u8], scope: &Scope<'_>) -> Result<Command<'a>, LineError> {
+    match line {
+        [] => return Ok(Command::Next),
+        [b'\t'] => return Ok(Command::Addressed),
+        _ => {}
+    }
+    let text = line.trim_ascii();
+    match text {
+        [b'^'] => Ok(Command::Previous),
+        [b'='] => Ok(Command::Retype(Retype::Octal)),
+        [b'_'] => Ok(Command::Retype(Retype::Symbolic)),
+        [b';'] => Ok(Command::Retype(Retype::Text)),
+        [b';', ..] => Ok(Command::Remark),
+        [b'.', first, ..] if first.is_ascii_alphabetic() => read_dot_command(&text[1..], scope),
+        _ => read_value_line(text, scope),
+    }
+}

@@ -1,0 +1,41 @@
+//! Numbers in octal and in decimal.
+ghost use Rattle.std.specs.Prelude.{◌<◌, ◌^◌, IfSome};
+
+use word36::Word;
+
+/// One more than the largest decimal number that is read.
+const DECIMALS: u64 = 1 << 40;
+
+/// The word of some octal digits, of which the last twelve count; `None` where there is no digit, or another character.
+pub fn octal(text: &[u8]) -> Option<Word> {
+    if text.is_empty() {
+        return None;
+    }
+    let mut value = Word::new(0);
+    for byte in text {
+        if *byte < b'0' || *byte > b'7' {
+            return None;
+        }
+        let digit = u64::from(*byte - b'0');
+        value = Word::low_bits(value.number() * 8 + digit);
+    }
+    Some(value)
+}
+
+/// The number of some decimal digits; `None` where there is no digit, or another character, or the number is 2^40 or more.
+pub fn decimal(text: &[u8]) -> Option<u64>
+    ensures { IfSome result (λ n. n < 2 ^ 40) }
+{
+    if text.is_empty() {
+        return None;
+    }
+    let mut value = 0u64;
+    for byte in text {
+        if *byte < b'0' || *byte > b'9' {
+            return None;
+        }
+        let digit = u64::from(*byte - b'0');
+        value = value.saturating_mul(10).saturating_add(digit);
+    }
+    if value < DECIMALS { Some(value) } else { None }
+}

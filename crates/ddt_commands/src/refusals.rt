@@ -1,0 +1,58 @@
+//! Why the debugger does not obey a command that is well-formed.
+
+use std::fmt;
+
+/// Why the debugger does not obey a command that is well-formed. It is written as `?` and the reason, without a line end.
+#[derive(Clone, Copy)]
+pub enum Refusal {
+    /// No address is open.
+    NotOpen,
+    /// There is no such lock.
+    NoLock,
+    /// The job has no word at the address.
+    NoWord,
+    /// There is no such job.
+    NoJob,
+    /// All breakpoints are set.
+    NoBreakpointFree,
+    /// There is no such breakpoint.
+    NotSet,
+    /// As many words are watched as can be.
+    NoWatchFree,
+    /// The job is not stopped.
+    NotStopped,
+    /// Only so many steps were made.
+    FewSteps(u64),
+    /// No step has changed the word.
+    NeverWritten,
+    /// The job stood at the address before no step.
+    NeverThere,
+    /// The terminal line has no room.
+    LineFull,
+    /// The first address is above the last.
+    WrongOrder,
+    /// The job has had no turn.
+    NoTurns,
+}
+
+impl fmt::Display for Refusal {
+    fn fmt<W: fmt::Write>(&self, f: &mut fmt::Formatter<W>) -> fmt::Result {
+        let text = match *self {
+            Refusal::FewSteps(steps) => return write!(f, "? so many steps were made: {steps}"),
+            Refusal::NotOpen => "? no place is open: a/ opens one",
+            Refusal::NoLock => "? a lock is named as in .BREAK LOCK A, or by its code as #17",
+            Refusal::NoWord => "? the job has no word there",
+            Refusal::NoJob => "? there is no such job: .JOBS lists them",
+            Refusal::NoBreakpointFree => "? all 8 breakpoints are set",
+            Refusal::NotSet => "? that breakpoint is not set",
+            Refusal::NoWatchFree => "? 8 words are watched already",
+            Refusal::NotStopped => "? no job can be started: the open one is not stopped",
+            Refusal::NeverWritten => "? no step has changed that word",
+            Refusal::NeverThere => "? the job did not stand there before any step",
+            Refusal::LineFull => "? the terminal line has no room for more",
+            Refusal::WrongOrder => "? the first place is behind the last",
+            Refusal::NoTurns => "? the job has had no turn",
+        };
+        f.write_str(text)
+    }
+}

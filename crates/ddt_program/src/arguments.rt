@@ -1,0 +1,14 @@
+//! The arguments of the command line.
+
+use machine::Config;
+
+/// The arguments of the command line, read and checked.
+#[derive(Drop)]
+pub struct Arguments<'a> {
+    /// The blocks of core that the jobs share, and the quantum.
+    pub config: Config,
+    /// The file whose lines are typed where a job waits for characters, if there is one.
+    pub input: Option<&'a str>,
+    /// The names of the sources' files, 1 to 63.
+    pub files: Vec<&'a str>,
+}

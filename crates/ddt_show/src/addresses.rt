@@ -1,0 +1,62 @@
+//! Addresses, and the words there.
+
+use crate::word_text::WordText;
+use ddt_commands::OutputMode;
+use run_notes::Reference;
+use source_labels::Places;
+use std::alloc::{AllocError, Global};
+use word36::Word;
+
+/// A job that is shown.
+#[derive(Drop)]
+pub struct ShownJob {
+    /// Its number, 1 to 63.
+    pub number: u8,
+    /// Where the labels and the literals of its source stand.
+    pub places: Places,
+}
+
+/// One more than the last address.
+const ADDRESSES: u32 = 0o1_000_000;
+
+/// The address behind one; that behind the last is 0.
+pub fn next_address(address: u32) -> u32 {
+    address.saturating_add(1) % ADDRESSES
+}
+
+/// The address before one; that before 0 is the last.
+pub fn previous_address(address: u32) -> u32 {
+    match address {
+        0 => ADDRESSES - 1,
+        address => address - 1,
+    }
+}
+
+/// An address as text: `LOOP+3`, or an octal number where no label is near.
+pub fn address_text(alloc: Global, job: &ShownJob, address: u32) -> Result<String, AllocError> {
+    let reference = Reference {
+        places: &job.places,
+        address,
+    };
+    format!(in alloc; "{reference}")
+}
+
+/// An address and the word there, without a line end: `LOOP+3/ MOVE 1,BLK`.
+pub fn address_line(
+    alloc: Global,
+    job: &ShownJob,
+    address: u32,
+    word: Word,
+    mode: OutputMode,
+) -> Result<String, AllocError> {
+    let reference = Reference {
+        places: &job.places,
+        address,
+    };
+    let text = WordText {
+        places: &job.places,
+        word,
+        mode,
+    };
+    format!(in alloc; "{reference}/ {text}")
+}

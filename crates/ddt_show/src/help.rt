@@ -1,0 +1,76 @@
+//! The help.
+
+use crate::answer_text::AnswerText;
+
+/// A line on each command, which stands in the first 16 characters.
+static COMMANDS: [&str; 39] = [
+    "a/               opens a place and shows its word",
+    "(empty)          the next place; ^ the one before; TAB the one that the last word addresses",
+    "value            puts the value in the place that is open",
+    "$S $C $T $H $nR  shows words as instructions, in octal, as text, halves, in radix n from here on",
+    "= _ ;            the last quantity in octal, as an instruction, as text",
+    "expr=            a value: octal, 12. decimal, labels, . and $Q, + and -, 1,,LABEL, MOVE 1,LABEL",
+    "a$B              sets a breakpoint of the open job at a; a$nB that of number n",
+    "0$nB             takes breakpoint n away",
+    "$B               the breakpoints, and what else runs stop at",
+    "$G               starts the jobs that were not started, or the open one again, and runs",
+    "a$G              starts the open job at a, and runs",
+    "n$P              goes on until the n-th breakpoint",
+    "n$X              n instructions of the open job, each told",
+    "$$X              up to the place behind the instruction, or the one behind that: a call returns there",
+    "v<mask>$W        words of the open job that are v under the mask; $N that are not",
+    "v$E              words of the open job with the effective address v",
+    ".JOB n           opens job n",
+    ".JOBS            how all jobs stand",
+    ".LOCKS           the requests for locks, in order of arrival",
+    ".WAITS           who waits for whom, hard or soft, and circles",
+    ".REGS            the accumulators and the PC of the open job",
+    ".HISTORY n       the last n turns of the open job",
+    ".WATCH a         runs stop where the word at a changes, or no longer",
+    ".BREAK LOCK A    runs stop before calls on the lock A (#17 by its code), or no longer",
+    ".BREAK GRANT     runs stop where a request that waited is granted, or no longer",
+    ".BREAK CIRCLE    runs stop where jobs wait for each other in a circle, or no longer",
+    ".BREAK a         as a$B",
+    ".STEP n          n steps of the machine",
+    ".TICK n          n ticks go by",
+    ".TYPE l text     types a text and a line end at terminal line l",
+    ".TAKE            what jobs have typed out",
+    ".EX a-b          shows the words from a to b",
+    ".BACK n          n steps back",
+    ".BACK TO a       to before the last step for which the open job stood at a",
+    ".BACK WRITE a    to before the step that last changed the word at a",
+    ".FORWARD         to where .BACK was typed",
+    ".SAVE file       writes the lines so far, as a script; .DO file obeys the lines of a file",
+    "; text           a remark",
+    ".QUIT            ends the session; .HELP word tells of one command",
+];
+
+/// How many characters of a line its command has.
+const COLUMN: usize = 16;
+
+/// Whether a word, which may be empty, stands in the command of a line, in upper or lower case.
+fn is_on(line: &str, word: &[u8]) -> bool {
+    let bytes = line.as_bytes();
+    for start in 0..COLUMN {
+        let end = start.saturating_add(word.len());
+        match bytes.get(start..end) {
+            Some(part) if end <= COLUMN && part.eq_ignore_ascii_case(word) => return true,
+            _ => {}
+        }
+    }
+    false
+}
+
+/// Adds a line on each command in which a word stands, in upper or lower case, and on each command for an empty word; false
+/// where there is none.
+pub fn add_help(answer: &mut AnswerText, word: &[u8]) -> bool {
+    let mut is_any = false;
+    for line in &COMMANDS {
+        if is_on(line, word) {
+            answer.say(line);
+            answer.end_line();
+            is_any = true;
+        }
+    }
+    is_any
+}
