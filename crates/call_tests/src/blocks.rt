@@ -2,7 +2,9 @@
 
 use crate::block_job::Fact::{Id, InGroup, Limit, Locks, NameOf, Refused, Share, Terms};
 use crate::block_job::{Fact, Halves};
-use crate::block_rows::Row::{Ends, First, Group, Heads, Limited, Pointer, Pool, Text, Told, Words};
+use crate::block_rows::Row::{
+    Ends, First, Group, Heads, Limited, Pointer, Pool, Text, Told, Words,
+};
 use crate::block_rows::{BLOCK, CODE, NAME, NO_POOL, PLAIN, Row, walk};
 use lock_queue::BlockUse::{Blocking, Full};
 use lock_queue::{Refusal, Scope};

@@ -1,7 +1,7 @@
 //! Generated programs, and a plain walk over all sequences of their jobs.
 
-use lockcheck_orders::{ANSWERS, Desk, Looked, Programs, Report, WAITS, look};
 use lock_queue::LockReply;
+use lockcheck_orders::{ANSWERS, Desk, Looked, Programs, Report, WAITS, look};
 use lockcheck_program::read_programs;
 use state_search::Unwatched;
 use std::alloc::{AllocError, Global};

@@ -3,7 +3,7 @@
 ghost use Rattle.std.specs.Prelude.{◌≡◌, ◌≢◌, ◌≤◌, ◌<◌, ◌+◌, ◌-◌, ◌*◌, ◌↔◌, ℕ, [], length, slice_get, slice_set};
 ghost use Rattle.std.specs.Prelude.{replicate, nat_lt, take, OnOk, OnErr, IfOk, IsOk, IsTrue};
 ghost use Rattle.ka_cpu.specs.Exec.{exec};
-ghost use Rattle.ka_cpu.specs.Places.{word_at};
+ghost use Rattle.ka_cpu.specs.Memory.{word_at};
 ghost use Rattle.core_store.specs.Cores.{IsJob, IsStore, Cores, core_of, blocks_of, with_core, all_free, taken, resized, given, resized_words};
 ghost use Rattle.std.specs.Prelude.{Some, None};
 

@@ -35,7 +35,10 @@ fn are_same_wants(vs: &[Want], ws: &[Want]) -> bool {
 
 /// Whether two requests are the same.
 fn is_same_request(a: &Request, b: &Request) -> bool {
-    let is_same_head = a.job == b.job && a.id == b.id && a.kind == b.kind && a.told == b.told;
+    let is_same_head = a.job == b.job
+        && a.id == b.id
+        && a.kind == b.kind
+        && a.notified == b.notified;
     is_same_head && are_same_wants(a.wants.as_slice(), b.wants.as_slice())
 }
 
@@ -54,7 +57,7 @@ pub fn hold_the_same<L: LockTable, M: LockTable>(a: &L, b: &M) -> bool {
 
 /// Whether two tables tell a job the same: whether it waits, and of which grant it is to be told.
 fn tell_a_job_the_same<L: LockTable, M: LockTable>(a: &L, b: &M, job: u8) -> bool {
-    a.waiting(job) == b.waiting(job) && a.pending(job) == b.pending(job)
+    a.is_waiting(job) == b.is_waiting(job) && a.pending(job) == b.pending(job)
 }
 
 /// Whether two tables tell a job the same of the first user codes.

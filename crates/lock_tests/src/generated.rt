@@ -185,8 +185,8 @@ fn step<L: LockTable, M: LockTable>(a: &mut L, b: &mut M, numbers: &mut Numbers)
             b.withdraw_all(jobs);
         }
         5 | 6 => {
-            a.told(job);
-            b.told(job);
+            a.mark_notified(job);
+            b.mark_notified(job);
         }
         _ => return call_both(a, b, numbers),
     }

@@ -65,7 +65,7 @@ fn small_request_does_not_pass_a_large_one(rt: HostRuntime) -> Result<(), Fail> 
         replies,
         [LockReply::Granted, LockReply::Queued, LockReply::Queued]
     );
-    assert!(rt; table.waiting(2) && table.waiting(3));
+    assert!(rt; table.is_waiting(2) && table.is_waiting(3));
 
     let calls = [
         (1, ask(2)),
@@ -85,7 +85,7 @@ fn small_request_does_not_pass_a_large_one(rt: HostRuntime) -> Result<(), Fail> 
         ]
     );
     assert_eq!(rt; table.len(), 2);
-    assert!(rt; !table.waiting(2) && !table.waiting(3));
+    assert!(rt; !table.is_waiting(2) && !table.is_waiting(3));
     Ok(())
 }
 

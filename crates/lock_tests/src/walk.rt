@@ -179,7 +179,7 @@ impl Row<'_> {
                 true
             }
             Row::Tells(job) => {
-                table.told(*job);
+                table.mark_notified(*job);
                 true
             }
             Row::Clears => {
@@ -189,7 +189,7 @@ impl Row<'_> {
             Row::Granted(ids) => are_granted(table, ids),
             Row::Requests(count) => table.len() == *count,
             Row::IsFull => table.len() == L::REQS,
-            Row::Waits(job, waits) => table.waiting(*job) == *waits,
+            Row::Waits(job, waits) => table.is_waiting(*job) == *waits,
             Row::WaitsFor(job, other, waits) => table.waits_for(*job, *other) == *waits,
             Row::Pending(job, id) => table.pending(*job).map(|id| id.number()) == *id,
             Row::Status(job, code, numbers) => words(table, *job, *code) == *numbers,

@@ -4,9 +4,9 @@ ghost use Rattle.std.specs.Prelude.{◌≡◌, length};
 use crate::asked::Run;
 use core_store::{BlockCore, CoreStore, PlainCore};
 use lock_queue::{Key, LockTable, Request, Status};
+use lock_table::ProgramTable;
 use monitor::{Answer, Event, JobView, System};
 use plain_table::PlainTable;
-use lock_table::ProgramTable;
 use std::alloc::{AllocError, Global};
 use std::io;
 use word36::{MOST_REQUESTS, Word};
@@ -86,7 +86,7 @@ impl<L: LockTable, C: CoreStore> Machine for System<L, C> {
     }
 
     fn waits(&self, job: u8) -> bool {
-        self.locks().waiting(job)
+        self.locks().is_waiting(job)
     }
 
     fn waits_for(&self, job: u8, other: u8) -> bool {

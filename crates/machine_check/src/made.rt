@@ -3,10 +3,10 @@
 use crate::growths::Finding;
 use command_line::{Choice, Refusal, choice as choice_of};
 use core_store::PlainCore;
+use lock_table::ProgramTable;
 use mac_asm::{AsmError, assemble};
 use mac_text::{ParseError, parse};
 use monitor::{Config, System};
-use lock_table::ProgramTable;
 use std::alloc::Global;
 
 /// A source of twelve lines and fourteen words, with a label, literals and a text.

@@ -82,7 +82,10 @@ fn is_same_want(v: &Want, w: &Want) -> bool {
 
 /// Whether two requests are the same.
 fn is_same_request(a: &Request, b: &Request) -> bool {
-    let is_same_head = a.job == b.job && a.id == b.id && a.kind == b.kind && a.told == b.told;
+    let is_same_head = a.job == b.job
+        && a.id == b.id
+        && a.kind == b.kind
+        && a.notified == b.notified;
     if !is_same_head || a.wants.len() != b.wants.len() {
         return false;
     }
