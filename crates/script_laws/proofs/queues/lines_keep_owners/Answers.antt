@@ -1,5 +1,5 @@
 use Rattle.script_laws.proofs.Along.{lines_keep_owners}
-use Rattle.script_laws.proofs.laws.lines_keep_owners.Goals as goal
+use Rattle.script_laws.proofs.queues.lines_keep_owners.Goals as goal
 
 pub returns : goal.returns
 returns c = lines_keep_owners

@@ -1,5 +1,5 @@
 use Rattle.script_laws.proofs.Along.{scripts_are_safe}
-use Rattle.script_laws.proofs.laws.scripts_are_safe.Goals as goal
+use Rattle.script_laws.proofs.queues.scripts_are_safe.Goals as goal
 
 pub returns : goal.returns
 returns c = scripts_are_safe
