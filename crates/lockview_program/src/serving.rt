@@ -6,11 +6,11 @@ use crate::arguments::{Options, read_arguments};
 use crate::run_course::draw_run_script;
 use crate::text::AsText;
 use fault_text::{NO_ENDASM, Refused, explain};
-use lock_bars::{MOST_LINES, ScriptError, SourceFault, draw_script};
+use lock_bars::{MOST_LINES, ScriptError, ScriptLines, SourceFault, draw_script};
 use lock_svg::{Along, AsSvg};
 use program_shell::{
-    FAILED, Failure, FailureLines, REFUSED, USAGE, line_at, read_whole, refuse_arguments,
-    report_failure, report_to, write_output,
+    FAILED, Failure, FailureLines, REFUSED, USAGE, read_whole, refuse_arguments, report_failure,
+    report_to, write_output,
 };
 use script_io::{ByteIn, ByteOut, LINE_LENGTH};
 use std::alloc::{AllocError, Global};
@@ -43,6 +43,19 @@ fn picture_of(alloc: Global, script: &[u8], options: Options) -> Result<String, 
             along: Along::Script,
         };
         Ok(format!(in alloc; "{svg}")?)
+    }
+}
+
+/// The line of this number, counted from 1, without its line end: a CR belongs to that only before an LF. An empty
+/// one where there are fewer.
+fn line_at(script: &[u8], number: usize) -> &[u8] {
+    let mut lines = ScriptLines::of(script);
+    for _ in 1..number {
+        let _ = lines.next();
+    }
+    match lines.next() {
+        Some(line) => line,
+        None => b"",
     }
 }
 
