@@ -1,0 +1,8 @@
+pub mod Bounds
+pub mod SaveLemmas
+pub mod PackLemmas
+pub mod SaveImages
+pub mod UnpackLemmas
+pub mod ImageLemmas
+pub mod WriteLemmas
+pub mod WordLemmas

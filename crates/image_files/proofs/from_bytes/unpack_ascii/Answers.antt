@@ -1,0 +1,14 @@
+use Rattle.std.proofs.Common.{◌+◌, refl, arith, vec_len, rules}
+use Rattle.image_files.specs.Packings.{ascii_words}
+use Rattle.image_files.proofs.UnpackLemmas.{ascii_stepped, ascii_ended}
+use Rattle.image_files.proofs.from_bytes.unpack_ascii.Goals as goal
+
+pub loop-rest-preserved : goal.loop-rest-preserved
+loop-rest-preserved c =
+    ascii_stepped c.loop-rest.words.items c.push.new.self.items c.loop-rest.rest.now (vec_len c.loop-rest.words + 1)
+    (vec_len c.push.new.self + 1) _ c.ascii_value.result (ascii_words 1 c.args.bytes.now)
+    c.in_ok-push.ensures.items c.ascii_value.ensures (cc) (omega arith) (omega arith) (omega arith) refl c.loop-rest.invariant
+
+pub returns : goal.returns
+returns c =
+    ascii_ended c.loop-rest.words.items c.loop-rest.rest.now (vec_len c.loop-rest.words + 1) (ascii_words 1 c.args.bytes.now) (search rules) c.loop-rest.invariant

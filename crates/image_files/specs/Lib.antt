@@ -1,0 +1,6 @@
+pub mod Images
+pub mod Saves
+pub mod Packings
+pub mod Unpacks
+pub mod Loads
+pub mod Writes

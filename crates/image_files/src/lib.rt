@@ -1,0 +1,25 @@
+//! Programs as people keep them: 36-bit words packed in bytes, and core images.
+#![tactic(auto)]
+
+mod from_bytes;
+mod images;
+mod laws;
+mod packings;
+mod save_reader;
+mod save_writer;
+mod saves;
+#[cfg(test)]
+mod tests;
+mod to_bytes;
+
+pub use from_bytes::unpack;
+pub use images::{compressed, is_image};
+pub use laws::{
+    packed_words_are_read, read_bytes_are_packed, read_images_fit, read_words_fit, saved_words_fit,
+    saves_are_read, saves_give_images,
+};
+pub use packings::{PackError, PackErrorKind, Packing};
+pub use save_reader::read_save;
+pub use save_writer::write_save;
+pub use saves::{SaveError, SaveErrorKind};
+pub use to_bytes::pack;
