@@ -1,0 +1,13 @@
+pub mod LabelTexts
+pub mod Given
+pub mod WordValues
+pub mod PlacedWords
+pub mod WrittenWords
+pub mod WholeSources
+pub mod Addresses
+pub mod NoteTexts
+pub mod Assemblies
+pub mod MarkLemmas
+pub mod LineLemmas
+pub mod AssembledImages
+pub mod Pushed
