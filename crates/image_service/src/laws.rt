@@ -1,0 +1,25 @@
+//! Laws on what the program writes. Each function does nothing: its contract is the law.
+ghost use Rattle.std.specs.Prelude.{◌≡◌, ◌<◌, ℕ, Bool, List, Ok, All};
+ghost use Rattle.image_files.specs.declared.packings.Packing.{Packing as PackingView};
+ghost use Rattle.image_files.specs.Images.{IsImage, WordsFit};
+ghost use Rattle.image_files.specs.Packings.{packed, unpacked};
+ghost use Rattle.image_files.specs.Saves.{Loaded, save_of};
+ghost use Rattle.script_io.specs.Transcripts.{closed};
+ghost use Rattle.image_service.specs.declared.endings.Ending.TheVariants.{Done};
+ghost use Rattle.image_service.specs.declared.endings.Form.TheVariants.{Packed};
+ghost use Rattle.image_service.specs.Transcripts.{repacked, saved, sourced};
+
+/// The file of an image comes back from its source, saved again.
+#[tactic(auto, using(crate::proofs::Back::file_back))]
+pub fn saved_sources_give_files_back()
+    ensures { (packing : PackingView) (labels comments : Bool) (image : Loaded) → IsImage image.words image.start → WordsFit image.words →
+        saved (Packed packing) (sourced packing labels comments (packed packing (save_of image))).text
+        ≡ closed (packed packing (save_of image)) Done }
+{}
+
+/// Bytes of words come back from another packing.
+#[tactic(auto, using(crate::proofs::Back::words_back))]
+pub fn repacked_there_and_back()
+    ensures { (from to : PackingView) (bytes words : List ℕ) → All (λ b. b < 256) bytes → unpacked from bytes ≡ Ok words →
+        repacked to (Packed from) (repacked from (Packed to) bytes).text ≡ closed bytes Done }
+{}

@@ -1,0 +1,20 @@
+//! What the program `image` writes for the bytes that it reads, over any ports.
+#![tactic(auto)]
+
+mod endings;
+mod faults;
+mod laws;
+mod listing;
+mod reading;
+mod repacking;
+mod saving;
+mod sourcing;
+#[cfg(test)]
+mod tests;
+
+pub use endings::{Ending, Form};
+pub use laws::{repacked_there_and_back, saved_sources_give_files_back};
+pub use listing::serve_list;
+pub use repacking::serve_words;
+pub use saving::serve_save;
+pub use sourcing::serve_source;
