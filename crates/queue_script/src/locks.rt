@@ -268,7 +268,7 @@ fn store_or_refuse(
     }
 }
 
-/// The same for a name in characters, which is copied here.
+/// Stores the want of a lock whose name is spelled in characters, which are copied here; or tells why it is refused.
 #[inline(always)]
 fn store_spelled(
     name: Characters<'_>,
@@ -288,7 +288,8 @@ fn store_spelled(
     }
 }
 
-/// The same for a name in characters without options, of any call.
+/// Stores the want of a lock whose name is spelled in characters and has no options, of any call; or tells why it is
+/// refused.
 #[inline(always)]
 fn store_plain(name: Characters<'_>, wants: &mut Wants, position: usize) -> StoreOutcome
     requires within { position ≤ array_vec_len wants.old }
