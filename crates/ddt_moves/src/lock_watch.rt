@@ -1,5 +1,7 @@
 //! A watch for calls on a lock, and for grants.
 
+ghost use Rattle.std.specs.Prelude.{true};
+
 use crate::run_stops::Cause;
 use crate::stop_lists::StopList;
 use crate::turns::{NUMBERS, pcs_of};
@@ -138,6 +140,8 @@ impl<'a> LockWatch<'a> {
 }
 
 impl Watch for LockWatch<'_> {
+    ghost looks = { λ watch. true };
+
     fn looks_at_rounds(&self) -> bool {
         true
     }

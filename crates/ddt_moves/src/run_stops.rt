@@ -1,6 +1,9 @@
 //! The stops of a run, and why it stopped.
+ghost use Rattle.std.specs.Prelude.{◌≡◌, ◌++◌, [], ◌∷◌, IfOk, OnOk, map};
+ghost use Rattle.std.specs.List.{flat_map};
+ghost use Rattle.ddt_moves.specs.RunStops.{stop_at, stop_of_circles, stop_of_word, stops_in, watched};
 
-use crate::stop_lists::StopList;
+use crate::stop_lists::{Breakpoint, StopList, WatchedWord};
 use concrete_machine::Machine;
 use ddt_timeline::{Stop, WatchedStop};
 use std::alloc::{AllocError, Global};
@@ -38,7 +41,9 @@ pub struct RunStops {
 
 impl RunStops {
     /// Adds a stop, with the number of its breakpoint, or 0.
-    pub fn add(&mut self, stop: Stop, number: usize) -> Result<(), AllocError> {
+    pub fn add(&mut self, stop: Stop, number: usize) -> Result<(), AllocError>
+        ensures { OnOk result (self.new.stops.items ≡ self.old.stops.items ++ watched stop ∷ []) }
+    {
         // A stop may hold a word, or none: the prover wants that type to be named.
         let _word: Option<Word> = None;
         if let Stop::At(_, address) = stop {
@@ -47,6 +52,62 @@ impl RunStops {
         self.numbers.push(number)?;
         self.stops.push(WatchedStop { stop, stood: false })?;
         Ok(())
+    }
+
+    /// Adds the stops of a command, which are no breakpoints.
+    fn add_own(&mut self, own: &[Stop]) -> Result<(), AllocError>
+        ensures { OnOk result (self.new.stops.items ≡ self.old.stops.items ++ map watched own.now) }
+    {
+        for stop in own {
+            self.add(*stop, 0)?;
+        }
+        Ok(())
+    }
+
+    /// Adds the stop of a breakpoint of a number, where it is set.
+    fn add_breakpoint(
+        &mut self,
+        breakpoint: Option<Breakpoint>,
+        number: usize,
+    ) -> Result<(), AllocError>
+        ensures { OnOk result (self.new.stops.items ≡ self.old.stops.items ++ map watched (stop_at breakpoint)) }
+    {
+        match breakpoint {
+            Some(one) => self.add(Stop::At(one.job, one.address), number),
+            None => Ok(()),
+        }
+    }
+
+    /// Adds the stops of the breakpoints that are set.
+    fn add_breakpoints(&mut self, breakpoints: &[Option<Breakpoint>]) -> Result<(), AllocError>
+        ensures { OnOk result (self.new.stops.items ≡ self.old.stops.items ++ map watched (flat_map stop_at breakpoints.now)) }
+    {
+        for i in 0..breakpoints.len() {
+            self.add_breakpoint(breakpoints[i], i.saturating_add(1))?;
+        }
+        Ok(())
+    }
+
+    /// Adds the stops of watched words, as they are now.
+    fn add_words(&mut self, machine: &Machine, words: &[WatchedWord]) -> Result<(), AllocError>
+        ensures { OnOk result (self.new.stops.items ≡ self.old.stops.items ++ map watched (map (stop_of_word machine.now) words.now)) }
+    {
+        for one in words {
+            let word = machine.peek(one.job, one.address);
+            self.add(Stop::Word(one.job, one.address, word), 0)?;
+        }
+        Ok(())
+    }
+
+    /// Adds the stop of circles, where runs stop there.
+    fn add_circles(&mut self, circles: bool) -> Result<(), AllocError>
+        ensures { OnOk result (self.new.stops.items ≡ self.old.stops.items ++ map watched (stop_of_circles circles)) }
+    {
+        if circles {
+            self.add(Stop::Circle, 0)
+        } else {
+            Ok(())
+        }
     }
 
     /// Why a run stopped that the stop at this position ended.
@@ -72,30 +133,17 @@ pub fn stops_of(
     machine: &Machine,
     own: &[Stop],
     list: &StopList,
-) -> Result<RunStops, AllocError> {
+) -> Result<RunStops, AllocError>
+    ensures { IfOk result (λ run. run.stops.items ≡ map watched own.now ++ map watched (stops_in machine.now list.now)) }
+{
     let mut stops = RunStops {
         stops: Vec::new(alloc),
         numbers: Vec::new(alloc),
         addresses: Vec::new(alloc),
     };
-    // A failure of memory is kept up to the end: fewer ways out make the proof shorter.
-    let mut added = Ok(());
-    for stop in own {
-        added = added.and(stops.add(*stop, 0));
-    }
-    for (i, breakpoint) in list.breakpoints.iter().enumerate() {
-        if let Some(breakpoint) = breakpoint {
-            let stop = Stop::At(breakpoint.job, breakpoint.address);
-            added = added.and(stops.add(stop, i.saturating_add(1)));
-        }
-    }
-    for watched in list.words.as_slice() {
-        let word = machine.peek(watched.job, watched.address);
-        added = added.and(stops.add(Stop::Word(watched.job, watched.address, word), 0));
-    }
-    if list.circles {
-        added = added.and(stops.add(Stop::Circle, 0));
-    }
-    added?;
+    stops.add_own(own)?;
+    stops.add_breakpoints(&list.breakpoints)?;
+    stops.add_words(machine, list.words.as_slice())?;
+    stops.add_circles(list.circles)?;
     Ok(stops)
 }

@@ -1,4 +1,10 @@
 //! Runs up to the first stop.
+ghost use Rattle.std.specs.Prelude.{◌≡◌, ◌+◌, ◌<◌, ◌≤◌, ℕ, IfOk, None, replicate, true};
+ghost use Rattle.machine.specs.Machine.{after};
+ghost use Rattle.machine.specs.Rounds.{rounds};
+ghost use Rattle.ddt_timeline.specs.Histories.{done, machine_of, one_step};
+ghost use Rattle.ddt_timeline.specs.Stops.{met_after};
+ghost use Rattle.ddt_timeline.specs.Views.{history};
 
 use crate::lock_watch::LockWatch;
 use crate::run_stops::{Cause, RunStops};
@@ -10,6 +16,8 @@ use std::alloc::AllocError;
 /// Why a run ended.
 #[derive(Clone, Copy)]
 pub struct RunEnd {
+    /// How many steps it made, each followed by a tick.
+    pub made: u32,
     /// What ended it, if a stop did.
     pub cause: Option<Cause>,
     /// Whether it made as many steps as it may.
@@ -18,31 +26,42 @@ pub struct RunEnd {
 
 impl RunEnd {
     /// The end of a run to some stops that could make `most` steps.
-    fn of(stops: &RunStops, ran: Run, most: u32) -> Self {
+    fn of(stops: &RunStops, ran: Run, most: u32) -> Self
+        ensures { result.made ≡ ran.made }
+    {
         RunEnd {
+            made: ran.made,
             cause: stops.cause(ran.stop),
             is_cut: ran.stop.is_none() && !ran.by_watch && ran.made >= most,
         }
     }
 
     /// The end of a run that makes no step.
-    pub fn at_once(cause: Option<Cause>) -> Self {
+    pub fn at_once(cause: Option<Cause>) -> Self
+        ensures { result.made ≡ 0 }
+    {
         RunEnd {
+            made: 0,
             cause,
             is_cut: false,
         }
     }
 }
 
-/// Makes steps until a stop holds, no job can go on, or `most` are made. Where a grant ends the run, the lines on it replace
-/// `grants`.
+/// Makes steps until a stop holds, no job can go on, or `most` are made: behind none of them but the last did a stop hold.
+/// Where a grant ends the run, the lines on it replace `grants`.
 pub fn run_to(
     timeline: &mut Timeline,
     stops: &mut RunStops,
     list: &StopList,
     most: u32,
     grants: &mut String,
-) -> Result<RunEnd, AllocError> {
+) -> Result<RunEnd, AllocError>
+    ensures happened { IfOk result (λ end. history timeline.new ≡ done (history timeline.old) (replicate end.made one_step)) }
+    ensures few { IfOk result (λ end. end.made ≤ most) }
+    ensures none_over { IfOk result (λ end. (k : ℕ) → k + 1 < end.made
+        → met_after stops.old.stops.items (after (rounds k true) (machine_of (history timeline.old))) ≡ None) }
+{
     if list.grants || list.lock.is_some() {
         return run_watched(timeline, stops, list, most, grants);
     }
@@ -62,7 +81,12 @@ fn run_watched(
     list: &StopList,
     most: u32,
     grants: &mut String,
-) -> Result<RunEnd, AllocError> {
+) -> Result<RunEnd, AllocError>
+    ensures happened { IfOk result (λ end. history timeline.new ≡ done (history timeline.old) (replicate end.made one_step)) }
+    ensures few { IfOk result (λ end. end.made ≤ most) }
+    ensures none_over { IfOk result (λ end. (k : ℕ) → k + 1 < end.made
+        → met_after stops.old.stops.items (after (rounds k true) (machine_of (history timeline.old))) ≡ None) }
+{
     let mut watch = LockWatch::new(timeline.alloc(), timeline.machine(), list)?;
     let ran = timeline.run(
         stops.stops.as_mut_slice(),
@@ -71,18 +95,21 @@ fn run_watched(
         &mut watch,
     )?;
     if ran.by_watch {
-        ended_by(timeline, &watch, grants)
+        ended_by(timeline, &watch, ran.made, grants)
     } else {
         Ok(RunEnd::of(stops, ran, most))
     }
 }
 
-/// Why a run ended that its watch ended.
+/// Why a run of so many steps ended that its watch ended.
 fn ended_by(
     timeline: &Timeline,
     watch: &LockWatch<'_>,
+    made: u32,
     grants: &mut String,
-) -> Result<RunEnd, AllocError> {
+) -> Result<RunEnd, AllocError>
+    ensures { IfOk result (λ end. end.made ≡ made) }
+{
     if watch.has_failed {
         return Err(AllocError);
     }
@@ -90,5 +117,9 @@ fn ended_by(
     let requests = timeline.machine().requests(alloc)?;
     let before = watch.requests.as_slice();
     *grants = grant_lines(alloc, ticks, before, requests.as_slice())?;
-    Ok(RunEnd::at_once(watch.cause))
+    Ok(RunEnd {
+        made,
+        cause: watch.cause,
+        is_cut: false,
+    })
 }

@@ -202,7 +202,7 @@ last-met stops m m' job stop addresses k within next all made_so met =
     by_rounds zero within near = refl
     by_rounds (suc i) within near = position-same addresses job m (after (rounds (suc i) true) m) m' stops (within (omega arith)) near
 
-rounds-behind : (i k : ℕ) (s : S) → after (rounds (i + k) true) s ≡ after (rounds k true) (after (rounds i true) s)
+pub rounds-behind : (i k : ℕ) (s : S) → after (rounds (i + k) true) s ≡ after (rounds k true) (after (rounds i true) s)
 rounds-behind zero k s = let e : 0 + k ≡ k = omega arith in ap (λ (n : ℕ). after (rounds n true) s) e
 rounds-behind (suc i) k s =
     let e : suc i + k ≡ suc (i + k) = omega arith in

@@ -1,3 +1,6 @@
 pub mod CircleLemmas
 pub mod RunLemmas
 pub mod AtOnce
+pub mod GoingOn
+pub mod HistoryLemmas
+pub mod GoingBack

@@ -83,7 +83,7 @@ pub settled : (es es' : List Entry) (whole part : ℕ) (m s : S) → whole ≡ l
 settled es es' whole part m s all items there =
     there ∙ sym (reached_more es (Rounds part) whole s all) ∙ ap (λ (ys : List Entry). reached ys (whole + 1) 0 s) (sym items)
 
-get-last : (es : List Entry) (e r : Entry) → r ≡ get_or (es ++ e ∷ []) (length es) r → r ≡ e
+pub get-last : (es : List Entry) (e r : Entry) → r ≡ get_or (es ++ e ∷ []) (length es) r → r ≡ e
 get-last [] e r is = is
 get-last (x ∷ es) e r is = get-last es e r is
 

@@ -1,2 +1,6 @@
 pub mod Timelines
 pub mod Stops
+pub mod Runs
+pub mod Histories
+pub mod Laws
+pub mod Views

@@ -5,6 +5,8 @@ use Rattle.job_sched.specs.Tables.{job_at}
 use Rattle.machine.specs.Deposits.{deposited, started_at}
 use Rattle.machine.specs.Machine.{S, after, logged_in, started, continued, killed, typed, taken, ticked}
 use Rattle.machine.specs.Rounds.{rounds}
+use Rattle.machine.specs.declared.event.Answer.{Answer}
+use Rattle.machine.specs.declared.event.Answer.TheVariants.{Done}
 use Rattle.ddt_timeline.specs.declared.entries.Entry.{Entry}
 use Rattle.ddt_timeline.specs.declared.entries.Entry.TheVariants.{Rounds, Login, Start, Continue, Kill, Typed, Take, Ticks}
 use Rattle.ddt_timeline.specs.declared.entries.Entry.TheVariants.{Deposit, StartAt}
@@ -53,3 +55,34 @@ steps_of (StartAt n a) = 0
 abbrev pub steps_in : List Entry → ℕ
 steps_in [] = 0
 steps_in (e ∷ es) = steps_of e + steps_in es
+
+-- how many ticks an entry has
+abbrev pub ticks_of : Entry → ℕ
+ticks_of (Rounds n) = n
+ticks_of (Login line image) = 0
+ticks_of (Start n) = 0
+ticks_of (Continue n) = 0
+ticks_of (Kill n) = 0
+ticks_of (Typed line c) = 0
+ticks_of (Take line) = 0
+ticks_of (Ticks n) = n
+ticks_of (Deposit n a word) = 0
+ticks_of (StartAt n a) = 0
+
+-- how many ticks some entries have
+abbrev pub ticks_in : List Entry → ℕ
+ticks_in [] = 0
+ticks_in (e ∷ es) = ticks_of e + ticks_in es
+
+-- the answer to an entry
+abbrev pub answer_to : S → Entry → Answer
+answer_to s (Rounds n) = Done
+answer_to s (Login line image) = (logged_in s line image.words.items image.start).answer
+answer_to s (Start n) = (started s n).answer
+answer_to s (Continue n) = (continued s n).answer
+answer_to s (Kill n) = (killed s n (job_at s.world.table.jobs n)).answer
+answer_to s (Typed line c) = (typed s line c).answer
+answer_to s (Take line) = (taken s line TAKEN_AT_ONCE).answer
+answer_to s (Ticks n) = Done
+answer_to s (Deposit n a word) = Done
+answer_to s (StartAt n a) = (started_at s n a).answer

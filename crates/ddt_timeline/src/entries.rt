@@ -1,6 +1,6 @@
 //! What has happened to a machine, as a list of entries.
 ghost use Rattle.std.specs.Prelude.{◌≡◌};
-ghost use Rattle.ddt_timeline.specs.Timelines.{made, played, ticked_so_often};
+ghost use Rattle.ddt_timeline.specs.Timelines.{answer_to, made, played, ticked_so_often};
 
 use concrete_machine::Machine;
 use monitor::{Answer, Event};
@@ -45,7 +45,8 @@ fn tick(machine: &mut Machine, count: u32)
 
 /// Makes an entry happen, and gives the answer of the machine: `Done` to steps, ticks and a deposit.
 pub fn perform(machine: &mut Machine, entry: &Entry) -> Answer
-    ensures { machine.new ≡ made machine.old entry.now }
+    ensures state { machine.new ≡ made machine.old entry.now }
+    ensures answer { result ≡ answer_to machine.old entry.now }
 {
     let event = match entry {
         Entry::Rounds(count) => {

@@ -2,9 +2,11 @@
 #![tactic(auto)]
 
 mod entries;
+mod laws;
 mod stops;
 mod timeline;
 
 pub use entries::{Entry, perform, play};
+pub use laws::going_back_loses_nothing;
 pub use stops::{NoWatch, Run, Stop, Watch, WatchedStop, round, run_until, some_go_on, stands_at};
 pub use timeline::{Timeline, let_go};

@@ -1,11 +1,12 @@
 //! Runs of steps, up to the first after which a stop holds.
 ghost use Rattle.std.specs.List.{list_all};
-ghost use Rattle.std.specs.Prelude.{◌≡◌, ◌+◌, ◌-◌, ◌<◌, ◌≤◌, ℕ, None, OnSome, map, position, true};
+ghost use Rattle.std.specs.Prelude.{◌≡◌, ◌+◌, ◌-◌, ◌<◌, ◌≤◌, Bool, None, OnSome, false, is_some, map, position, true};
 ghost use Rattle.machine.specs.Machine.{after};
 ghost use Rattle.machine.specs.Rounds.{rounds};
 ghost use Rattle.machine.specs.Between.{is_among, next_in};
 ghost use Rattle.ddt_timeline.specs.Stops.{ran_of, round, has_ended, has_pc, is_at, is_at_one_of, is_input, is_met, is_met_at, is_within};
 ghost use Rattle.ddt_timeline.specs.Stops.{is_word, noted, met_after, stands_at, waits_for_input, waits_in_circle};
+ghost use Rattle.ddt_timeline.specs.Runs.{IsRun, SomeGoesOn, can_run, ends_by_ticks, goes_on, is_no_wait, some_go_on};
 ghost use Rattle.machine.specs.Views.{job_view};
 
 use concrete_machine::Machine;
@@ -43,8 +44,12 @@ pub struct WatchedStop {
 
 /// What else may end a run after one of its rounds.
 pub trait Watch {
-    /// Whether it looks at each round; where it does not, many rounds may be made at once.
-    fn looks_at_rounds(&self) -> bool;
+    /// Whether it looks at each round.
+    ghost looks: { Self → Bool };
+
+    /// Whether it looks at each round; where it does not, many rounds may be made at once, and it ends no run.
+    fn looks_at_rounds(&self) -> bool
+        ensures { result ≡ looks self.now };
 
     /// Whether the run ends after a round in which this job ran, if one did.
     fn ends_run(&mut self, machine: &Machine, ran: Option<u8>) -> bool;
@@ -55,6 +60,8 @@ pub trait Watch {
 pub struct NoWatch;
 
 impl Watch for NoWatch {
+    ghost looks = { λ watch. false };
+
     #[inline(always)]
     fn looks_at_rounds(&self) -> bool {
         false
@@ -232,31 +239,72 @@ fn first_met(machine: &Machine, ran: Option<u8>, stops: &[WatchedStop]) -> Optio
     None
 }
 
+/// Whether a wait ends by ticks alone, or is none.
+#[inline(always)]
+fn ends_by_ticks(wait: Wait) -> bool
+    ensures { result ≡ ends_by_ticks wait }
+{
+    match wait {
+        Wait::None | Wait::Sleep(_) => true,
+        Wait::Queue(limit, _) => limit > 0,
+        Wait::Char | Wait::Line | Wait::Room(_) => false,
+    }
+}
+
 /// Whether a job can go on now, or will by ticks alone.
 #[inline(always)]
-fn goes_on(machine: &Machine, number: u8) -> bool {
+fn goes_on(machine: &Machine, number: u8) -> bool
+    ensures { result ≡ goes_on (job_view machine.now.world number) }
+{
     match machine.job(number) {
         None => false,
-        Some(view) => {
-            view.stop.is_none()
-                && match view.wait {
-                    Wait::None | Wait::Sleep(_) => true,
-                    Wait::Queue(limit, _) => limit > 0,
-                    Wait::Char | Wait::Line | Wait::Room(_) => false,
-                }
-        }
+        Some(view) => view.stop.is_none() && ends_by_ticks(view.wait),
     }
 }
 
 /// Whether any job can go on now, or will by ticks alone.
 #[inline(never)]
-pub fn some_go_on(machine: &Machine) -> bool {
+pub fn some_go_on(machine: &Machine) -> bool
+    ensures { result ≡ some_go_on machine.now }
+{
     for number in 1..JOBS + 1 {
         if goes_on(machine, number) {
             return true;
         }
     }
     false
+}
+
+/// Whether a wait is none.
+fn is_no_wait(wait: Wait) -> bool
+    ensures { result ≡ is_no_wait wait }
+{
+    matches!(wait, Wait::None)
+}
+
+/// Whether a job can run now: it is not stopped, and waits for nothing.
+#[inline(always)]
+fn can_run(machine: &Machine, number: u8) -> bool
+    ensures { result ≡ can_run (job_view machine.now.world number) }
+{
+    match machine.job(number) {
+        None => false,
+        Some(view) => view.stop.is_none() && is_no_wait(view.wait),
+    }
+}
+
+/// Whether a job, which ran last, can run now: then some job is next.
+#[inline(always)]
+fn can_run_again(machine: &Machine, job: Option<u8>) -> bool
+    ensures { result ≡ true → is_some (next_in machine.now) ≡ true }
+{
+    let Some(number) = job else {
+        return false;
+    };
+    if number == 0 || number > JOBS {
+        return false;
+    }
+    can_run(machine, number)
 }
 
 /// Whether an address is one of some.
@@ -293,8 +341,8 @@ fn are_within(addresses: &[Address], stops: &[WatchedStop]) -> bool
     true
 }
 
-/// How many rounds may be made at once: any number where all stops are at some of these addresses and no watch looks at each
-/// round, and one otherwise.
+/// How many rounds of a job may be made at once: any number where all stops are at some of these addresses and no watch looks
+/// at each round, and one otherwise.
 fn most_at_once(addresses: &[Address], stops: &[WatchedStop], is_watched: bool) -> u32
     ensures least { 1 ≤ result }
     ensures many { 2 ≤ result → list_all (is_within addresses.now) stops.now ≡ true }
@@ -306,18 +354,56 @@ fn most_at_once(addresses: &[Address], stops: &[WatchedStop], is_watched: bool) 
     }
 }
 
-/// Whether a run may go on: nothing has ended it, and it has made fewer steps than it may.
+/// How many rounds may be made next, of those that are left: as many as may be made at once where a job is ready, and one
+/// otherwise, as a tick may end the run.
+fn most_next(at_once: u32, is_ready: bool, left: u32) -> u32
+    requires some { 1 ≤ at_once }
+    requires left { 1 ≤ left }
+    ensures least { 1 ≤ result }
+    ensures most { result ≤ left }
+    ensures ready { 2 ≤ result → is_ready ≡ true }
+    ensures many { 2 ≤ result → 2 ≤ at_once }
+{
+    if is_ready { at_once.min(left) } else { 1 }
+}
+
+/// Whether a run may go on: nothing has ended it, it has made fewer steps than it may, and some job goes on, as one does where
+/// one is ready.
 #[inline(always)]
-fn may_go_on(ran: &Run, most: u32) -> bool
+fn may_go_on(machine: &Machine, ran: &Run, most: u32, is_ready: bool) -> bool
+    requires { is_ready ≡ true → is_some (next_in machine.now) ≡ true }
     ensures stop { result ≡ true → ran.now.stop ≡ None }
     ensures few { result ≡ true → ran.now.made < most }
+    ensures going { result ≡ true → SomeGoesOn machine.now }
+    ensures ends { result ≡ false → ran.now.made < most → ran.now.stop ≡ None → ran.now.by_watch ≡ false → some_go_on machine.now ≡ false }
 {
-    ran.stop.is_none() && !ran.by_watch && ran.made < most
+    if ran.stop.is_some() || ran.by_watch || ran.made >= most {
+        return false;
+    }
+    is_ready || some_go_on(machine)
+}
+
+/// Whether a watch ends a run after a round in which a job ran: it does not where it does not look at each round, or where a
+/// stop ended the run.
+#[inline(always)]
+fn is_ended_by<W: Watch>(
+    watch: &mut W,
+    machine: &Machine,
+    job: Option<u8>,
+    is_watched: bool,
+    stop: Option<usize>,
+) -> bool
+    ensures { result ≡ true → is_watched ≡ true }
+{
+    if !is_watched || stop.is_some() {
+        return false;
+    }
+    watch.ends_run(machine, job)
 }
 
 /// Makes steps, each followed by a tick, until a stop holds, the watch ends the run, no job can go on, or `most` are made.
 /// Where all stops are at these addresses and no watch looks at each round, the rounds of a job are made at once, up to the
-/// first that leaves its PC at one of them.
+/// first that leaves its PC at one of them. A watch that does not look at each round ends no run.
 pub fn run_until<W: Watch>(
     machine: &mut Machine,
     stops: &mut [WatchedStop],
@@ -326,30 +412,25 @@ pub fn run_until<W: Watch>(
     watch: &mut W,
 ) -> Run
     ensures state { machine.new ≡ after (rounds result.made true) machine.old }
-    ensures most { result.made ≤ most }
-    ensures none_over { (k : ℕ) → k + 1 < result.made → met_after stops.old (after (rounds k true) machine.old) ≡ None }
-    ensures last { OnSome result.stop (result.stop ≡ met_after stops.old (after (rounds (result.made - 1) true) machine.old)) }
+    ensures run { IsRun machine.old stops.old most result }
+    ensures watched { result.by_watch ≡ true → W.looks watch.old ≡ true }
 {
-    let at_once = most_at_once(addresses, stops, watch.looks_at_rounds());
+    let is_watched = watch.looks_at_rounds();
+    let at_once = most_at_once(addresses, stops, is_watched);
     let mut ran = Run {
         made: 0,
         stop: None,
         by_watch: false,
     };
-    let mut is_sure = false;
+    let mut is_ready = false;
     note_stood(machine, stops);
-    while may_go_on(&ran, most) {
-        if !is_sure && !some_go_on(machine) {
-            break;
-        }
-        let rounds = machine.rounds_to(at_once.min(most - ran.made), addresses);
+    while may_go_on(machine, &ran, most, is_ready) {
+        let next = most_next(at_once, is_ready, most - ran.made);
+        let rounds = machine.rounds_to(next, addresses);
         ran.made += rounds.made;
         ran.stop = first_met(machine, rounds.job, stops);
-        ran.by_watch = ran.stop.is_none() && watch.ends_run(machine, rounds.job);
-        is_sure = match rounds.job {
-            Some(number) => goes_on(machine, number),
-            None => false,
-        };
+        ran.by_watch = is_ended_by(watch, machine, rounds.job, is_watched, ran.stop);
+        is_ready = can_run_again(machine, rounds.job);
         note_stood(machine, stops);
     }
     ran

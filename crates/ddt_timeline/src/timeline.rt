@@ -1,8 +1,10 @@
 //! A machine with all that has happened to it, so that it can be put back to any of its steps.
-ghost use Rattle.std.specs.Prelude.{◌≡◌, ◌+◌, ◌-◌, ◌≤◌, ◌<◌, None, OnOk, IfOk, IfSome, take, length, true};
+ghost use Rattle.std.specs.Prelude.{◌≡◌, ◌+◌, ◌-◌, ◌≤◌, ◌<◌, [], None, OnErr, OnOk};
+ghost use Rattle.std.specs.Prelude.{IfOk, IfSome, drop, false, take, length, min, replicate, true};
 ghost use Rattle.word36.specs.declared.sizes.TheConstants.{MOST_REQUESTS};
 ghost use Rattle.machine.specs.Machine.{at_boot};
-ghost use Rattle.ddt_timeline.specs.Timelines.{made, reached, steps_in, steps_of};
+ghost use Rattle.ddt_timeline.specs.Histories.{is_place, is_place_in};
+ghost use Rattle.ddt_timeline.specs.Timelines.{reached, steps_in, steps_of, ticks_of};
 
 use crate::entries::{Entry, perform, play};
 use crate::stops::{Run, Watch, WatchedStop, run_until};
@@ -25,6 +27,7 @@ pub struct Timeline {
     whole: usize,
     part: u32,
     ghost within: { whole ≤ length entries.items },
+    ghost placed: { is_place_in entries.items whole part ≡ true },
     ghost reached: { machine ≡ reached entries.items whole part (at_boot MOST_REQUESTS config.blocks config.quantum) },
 }
 
@@ -39,7 +42,9 @@ fn steps_of(entry: &Entry) -> u32
 }
 
 /// How many ticks an entry has.
-fn ticks_of(entry: &Entry) -> u32 {
+fn ticks_of(entry: &Entry) -> u32
+    ensures { result ≡ ticks_of entry.now }
+{
     match entry {
         Entry::Rounds(count) | Entry::Ticks(count) => *count,
         _ => 0,
@@ -50,6 +55,8 @@ fn ticks_of(entry: &Entry) -> u32 {
 fn position_of(entries: &[Entry], steps: u64) -> Option<(usize, u32)>
     ensures within { IfSome result (λ p. p.0 ≤ length entries.now) }
     ensures count { IfSome result (λ p. steps_in (take p.0 entries.now) + p.1 ≡ steps) }
+    ensures place { IfSome result (λ p. is_place (drop p.0 entries.now) p.1 ≡ true) }
+    ensures fewer { result ≡ None → steps_in entries.now < steps }
 {
     let mut left = steps;
     for i in 0..entries.len() {
@@ -77,8 +84,18 @@ fn beginning(entries: &Vec<Entry>, count: usize) -> &[Entry]
 pub fn let_go(machine: Machine) {}
 
 impl Timeline {
+    ghost use Rattle.ddt_timeline.specs.Histories.{at_end, cut, done, everything};
+    ghost use Rattle.ddt_timeline.specs.Histories.{history_of, is_before_step, machine_of, one_step, things_of};
+    ghost use Rattle.ddt_timeline.specs.Runs.{IsRun};
+    ghost use Rattle.ddt_timeline.specs.Timelines.{answer_to, ticks_in};
+    ghost use Rattle.ddt_timeline.specs.Views.{history, steps_behind, whole_entries};
+
     /// A machine to which nothing has happened.
-    pub fn new(alloc: Global, config: Config) -> Result<Self, AllocError> {
+    pub fn new(alloc: Global, config: Config) -> Result<Self, AllocError>
+        ensures boot { IfOk result (λ new. (history new).boot ≡ at_boot MOST_REQUESTS config.blocks config.quantum) }
+        ensures past { IfOk result (λ new. (history new).past ≡ []) }
+        ensures ahead { IfOk result (λ new. (history new).ahead ≡ []) }
+    {
         let machine = Machine::boot(alloc, config)?;
         Ok(Timeline {
             alloc,
@@ -95,15 +112,18 @@ impl Timeline {
         self.alloc
     }
 
-    /// The machine.
+    /// The machine: what has happened, from boot on.
+    #[tactic(auto, using(crate::proofs::HistoryLemmas::past_reached))]
     pub fn machine(&self) -> &Machine
-        ensures { result.now ≡ self.now.machine }
+        ensures { result.now ≡ machine_of (history self.now) }
     {
         &self.machine
     }
 
-    /// How many steps have been made.
-    pub fn steps(&self) -> u64 {
+    /// How many steps have been made, or 2 ^ 64 - 1 where there are more.
+    pub fn steps(&self) -> u64
+        ensures { result ≡ min u64.MAX (steps_in (history self.now).past) }
+    {
         let mut steps = u64::from(self.part);
         for entry in self.entries() {
             steps = steps.saturating_add(u64::from(steps_of(entry)));
@@ -111,8 +131,10 @@ impl Timeline {
         steps
     }
 
-    /// How many ticks have gone by.
-    pub fn ticks(&self) -> u64 {
+    /// How many ticks have gone by, or 2 ^ 64 - 1 where there are more.
+    pub fn ticks(&self) -> u64
+        ensures { result ≡ min u64.MAX (ticks_in (history self.now).past) }
+    {
         let mut ticks = u64::from(self.part);
         for entry in self.entries() {
             ticks = ticks.saturating_add(u64::from(ticks_of(entry)));
@@ -126,23 +148,31 @@ impl Timeline {
     }
 
     /// A second machine, to which nothing has happened.
-    pub fn boot(&self) -> Result<Machine, AllocError> {
+    pub fn boot(&self) -> Result<Machine, AllocError>
+        ensures { IfOk result (λ machine. machine ≡ (history self.now).boot) }
+    {
         Machine::boot(self.alloc, self.config)
     }
 
     /// The whole entries that have happened.
-    pub fn entries(&self) -> &[Entry] {
+    pub fn entries(&self) -> &[Entry]
+        ensures { result.now ≡ whole_entries self.now }
+    {
         beginning(&self.entries, self.whole)
     }
 
     /// How many steps have been made after the whole entries.
-    pub fn part(&self) -> u32 {
+    pub fn part(&self) -> u32
+        ensures { result ≡ steps_behind self.now }
+    {
         self.part
     }
 
     /// Makes an entry of the steps after the last one.
     fn settle(&mut self) -> Result<(), AllocError>
+        ensures kept { history self.new ≡ history self.old }
         ensures machine { self.new.machine ≡ self.old.machine }
+        ensures place { OnOk result (is_place (drop self.new.whole self.new.entries.items) self.new.part ≡ true) }
         ensures end { OnOk result (self.old.whole ≡ length self.old.entries.items
             → (self.new.whole ≡ length self.new.entries.items) × (self.new.part ≡ 0)) }
     {
@@ -156,6 +186,7 @@ impl Timeline {
 
     /// Forgets what happened before the machine was put back.
     fn cut(&mut self) -> Result<(), AllocError>
+        ensures kept { history self.new ≡ cut (history self.old) }
         ensures machine { self.new.machine ≡ self.old.machine }
         ensures last { OnOk result ((self.new.whole ≡ length self.new.entries.items) × (self.new.part ≡ 0)) }
     {
@@ -163,9 +194,12 @@ impl Timeline {
         self.settle()
     }
 
-    /// Makes an entry happen, and forgets what happened before the machine was put back.
+    /// Makes an entry happen, and forgets what happened before the machine was put back. Where memory is short it does not
+    /// happen, and what was ahead is forgotten.
     pub fn make(&mut self, entry: Entry) -> Result<Answer, AllocError>
-        ensures { OnOk result (self.new.machine ≡ made self.old.machine entry) }
+        ensures happened { OnOk result (history self.new ≡ done (history self.old) (things_of entry)) }
+        ensures answer { IfOk result (λ answer. answer ≡ answer_to (machine_of (history self.old)) entry) }
+        ensures fails { OnErr result (history self.new ≡ cut (history self.old)) }
     {
         self.cut()?;
         self.entries.push(entry)?;
@@ -182,7 +216,12 @@ impl Timeline {
         addresses: &[Address],
         most: u32,
         watch: &mut W,
-    ) -> Result<Run, AllocError> {
+    ) -> Result<Run, AllocError>
+        ensures happened { IfOk result (λ ran. history self.new ≡ done (history self.old) (replicate ran.made one_step)) }
+        ensures run { IfOk result (λ ran. IsRun (machine_of (history self.old)) stops.old most ran) }
+        ensures watched { IfOk result (λ ran. ran.by_watch ≡ true → W.looks watch.old ≡ true) }
+        ensures fails { OnErr result (history self.new ≡ cut (history self.old)) }
+    {
         self.cut()?;
         let ran = run_until(&mut self.machine, stops, addresses, most, watch);
         self.part = ran.made;
@@ -191,9 +230,10 @@ impl Timeline {
 
     /// Puts the machine where so many whole entries have happened, and so many steps after them.
     fn go_to(&mut self, whole: usize, part: u32) -> Result<(), AllocError>
-        requires { whole ≤ length self.old.entries.items }
-        ensures entries { self.new.entries.items ≡ self.old.entries.items }
-        ensures there { OnOk result ((self.new.whole ≡ whole) × (self.new.part ≡ part)) }
+        requires within { whole ≤ length self.old.entries.items }
+        requires place { is_place (drop whole self.old.entries.items) part ≡ true }
+        ensures there { OnOk result (history self.new ≡ history_of (history self.old).boot self.old.entries.items whole part) }
+        ensures stays { OnErr result (history self.new ≡ history self.old) }
     {
         let mut machine = Machine::boot(self.alloc, self.config)?;
         play(&mut machine, beginning(&self.entries, whole));
@@ -204,11 +244,16 @@ impl Timeline {
         Ok(())
     }
 
-    /// Puts the machine where so many steps have been made; false, and the machine stays, where there are fewer. What has
-    /// happened is kept.
+    /// Puts the machine to the last of the places in its history before which so many steps have been made: a step is next
+    /// there, or nothing. False, and nothing changes, where fewer were made in all. What has happened is kept.
     pub fn put_back(&mut self, steps: u64) -> Result<bool, AllocError>
-        ensures there { IfOk result (λ has_so_many. has_so_many ≡ true
-            → steps_in (take self.new.whole self.new.entries.items) + self.new.part ≡ steps) }
+        ensures kept { everything (history self.new) ≡ everything (history self.old) }
+        ensures boot { (history self.new).boot ≡ (history self.old).boot }
+        ensures there { IfOk result (λ has_so_many. has_so_many ≡ true → steps_in (history self.new).past ≡ steps) }
+        ensures last { IfOk result (λ has_so_many. has_so_many ≡ true → is_before_step (history self.new).ahead ≡ true) }
+        ensures fewer { IfOk result (λ has_so_many. has_so_many ≡ false → steps_in (everything (history self.old)) < steps) }
+        ensures stays { IfOk result (λ has_so_many. has_so_many ≡ false → history self.new ≡ history self.old) }
+        ensures fails { OnErr result (history self.new ≡ history self.old) }
     {
         self.settle()?;
         let Some((whole, part)) = position_of(self.entries.as_slice(), steps) else {
@@ -218,10 +263,14 @@ impl Timeline {
         Ok(true)
     }
 
-    /// Puts the machine where all entries that are kept have happened.
-    pub fn forward(&mut self) -> Result<(), AllocError> {
+    /// Puts the machine where all that is kept has happened.
+    pub fn forward(&mut self) -> Result<(), AllocError>
+        ensures end { OnOk result (history self.new ≡ at_end (history self.old)) }
+        ensures fails { OnErr result (history self.new ≡ history self.old) }
+    {
         self.settle()?;
         let whole = self.entries.len();
-        self.go_to(whole, 0)
+        self.go_to(whole, 0)?;
+        Ok(())
     }
 }

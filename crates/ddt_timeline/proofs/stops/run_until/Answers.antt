@@ -1,28 +1,54 @@
-use Rattle.std.proofs.Common.{◌≤◌, arith}
+use Rattle.std.proofs.Common.{◌≤◌, ◌∙◌, sym, ap, arith}
+use Rattle.machine.specs.Machine.{S}
+use Rattle.ddt_timeline.specs.Runs.{some_go_on}
 use Rattle.ddt_timeline.proofs.AtOnce.{at_once, none_behind}
-use Rattle.ddt_timeline.proofs.RunLemmas.{noted_on, on_some}
+use Rattle.ddt_timeline.proofs.GoingOn.{going_behind}
+use Rattle.ddt_timeline.proofs.RunLemmas.{noted_on}
 use Rattle.ddt_timeline.proofs.stops.run_until.Goals as goal
 
-pub loop-machine-preserved : goal.loop-machine-preserved
-loop-machine-preserved g c =
-    let none_yet = c.loop-machine.invariant.none_yet (c.may_go_on.ensures.stop c.loop-machine-test.true) in
-    let few = c.may_go_on.ensures.few c.loop-machine-test.true in
+pub loop-next-preserved : goal.loop-next-preserved
+loop-next-preserved g c =
+    let none_yet = c.loop-next.invariant.none_yet (c.may_go_on.ensures.stop c.loop-next-test.true) in
+    let few = c.may_go_on.ensures.few c.loop-next-test.true in
     let x =
-    at_once c.args.machine.now c.args.stops.now c.loop-machine.stops c.loop-machine.ran.made c.rounds_to-rounds.result.made c.loop-machine.machine
-    c.rounds_to-rounds.new.self c.rounds_to-rounds.result.job c.first_met-ran.result c.args.addresses.now c.loop-machine.invariant.state
-    c.loop-machine.invariant.stood c.rounds_to-rounds.ensures.state c.rounds_to-rounds.ensures.next c.rounds_to-rounds.ensures.least
-    (λ (two : 2 ≤ c.rounds_to-rounds.result.made). c.most_at_once-at_once.ensures.many (omega (arith, two, c.rounds_to-rounds.ensures.most, c.min.ensures)))
+    at_once c.args.machine.now c.args.stops.now c.loop-next.stops c.loop-next.ran.made c.rounds_to-rounds.result.made c.loop-next.machine
+    c.rounds_to-rounds.new.self c.rounds_to-rounds.result.job c.first_met-ran.result c.args.addresses.now c.loop-next.invariant.state
+    c.loop-next.invariant.stood c.rounds_to-rounds.ensures.state c.rounds_to-rounds.ensures.next c.rounds_to-rounds.ensures.least
+    (λ (two : 2 ≤ c.rounds_to-rounds.result.made).
+    c.most_at_once-at_once.ensures.many (c.most_next-next.ensures.many (omega (arith, two, c.rounds_to-rounds.ensures.most))))
     c.rounds_to-rounds.ensures.between c.first_met-ran.ensures in
     record {
-      few = omega (arith, c.min.ensures, few, c.rounds_to-rounds.ensures.most);
+      few = omega (arith, few, c.most_next-next.ensures.most, c.rounds_to-rounds.ensures.most);
       state = x.state;
       none_over = x.none_over none_yet;
       none_yet =
           λ none.
-          none_behind c.args.machine.now c.args.stops.now c.loop-machine.ran.made c.rounds_to-rounds.result.made c.loop-machine.machine
+          none_behind c.args.machine.now c.args.stops.now c.loop-next.ran.made c.rounds_to-rounds.result.made c.loop-next.machine
           c.rounds_to-rounds.new.self c.first_met-ran.result x none none_yet;
-      last = on_some _ _ x.last;
+      last = λ _. x.last;
+      nothing = λ none. absurd (omega (arith, none, c.rounds_to-rounds.ensures.least));
+      going =
+          going_behind c.args.machine.now c.loop-next.machine c.loop-next.ran.made c.rounds_to-rounds.result.made
+          c.rounds_to-rounds.result.job c.args.addresses.now c.loop-next.invariant.state c.rounds_to-rounds.ensures.next
+          (λ (two : 2 ≤ c.rounds_to-rounds.result.made).
+          c.loop-next.invariant.ready (c.most_next-next.ensures.ready (omega (arith, two, c.rounds_to-rounds.ensures.most))))
+          (c.may_go_on.ensures.going c.loop-next-test.true) c.rounds_to-rounds.ensures.between c.loop-next.invariant.going;
+      ready = c.can_run_again-is_ready.ensures;
+      watched = c.is_ended_by.ensures;
       stood =
-          noted_on c.args.stops.now c.loop-machine.stops _ c.loop-machine.machine c.rounds_to-rounds.new.self c.loop-machine.invariant.stood
-          c.note_stood-in-loop-machine.ensures;
+          noted_on c.args.stops.now c.loop-next.stops _ c.loop-next.machine c.rounds_to-rounds.new.self c.loop-next.invariant.stood
+          c.note_stood-in-loop-next.ensures;
     }
+
+pub returns-clause-run : goal.returns-clause-run
+returns-clause-run g c = record {
+  most = c.loop-next.invariant.few;
+  none_over = c.loop-next.invariant.none_over;
+  last = c.loop-next.invariant.last;
+  nothing = c.loop-next.invariant.nothing;
+  going = c.loop-next.invariant.going;
+  ends =
+      λ few none quiet.
+      ap (λ (s : S). some_go_on s) (sym c.loop-next.invariant.state)
+      ∙ c.may_go_on.ensures.ends c.loop-next-test.false few none quiet;
+}

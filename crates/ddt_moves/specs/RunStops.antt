@@ -1,0 +1,33 @@
+-- The stops of a run of the debugger: those of a command, and those that stand in the tables of the user (this project's profile).
+use Rattle.std.specs.Prelude.{◌++◌, Bool, true, false, List, [], ◌∷◌, map, Option, Some, None}
+use Rattle.std.specs.List.{flat_map}
+use Rattle.machine.specs.Machine.{S}
+use Rattle.machine.specs.Views.{word_in}
+use Rattle.ddt_timeline.specs.declared.stops.Stop.{Stop}
+use Rattle.ddt_timeline.specs.declared.stops.Stop.TheVariants.{At, Word, Circle}
+use Rattle.ddt_timeline.specs.declared.stops.WatchedStop.{WatchedStop}
+use Rattle.ddt_moves.specs.declared.stop_lists.Breakpoint.{Breakpoint}
+use Rattle.ddt_moves.specs.declared.stop_lists.StopList.{StopList}
+use Rattle.ddt_moves.specs.declared.stop_lists.WatchedWord.{WatchedWord}
+
+-- a stop of a run that has not begun
+abbrev pub watched : Stop → WatchedStop
+watched one = record { stop = one; stood = false }
+
+-- the stop of a breakpoint, where it is set
+abbrev pub stop_at : Option Breakpoint → List Stop
+stop_at (Some b) = At b.job b.address ∷ []
+stop_at None = []
+
+-- the stop of a watched word: it is no longer what it is now
+abbrev pub stop_of_word : S → WatchedWord → Stop
+stop_of_word s w = Word w.job w.address (word_in s.world w.job w.address)
+
+-- the stop of circles, where runs stop there
+abbrev pub stop_of_circles : Bool → List Stop
+stop_of_circles true = Circle ∷ []
+stop_of_circles false = []
+
+-- the stops of the user's tables: the breakpoints of all jobs, the watched words as they are now, and circles
+abbrev pub stops_in : S → StopList → List Stop
+stops_in s list = flat_map stop_at list.breakpoints ++ map (stop_of_word s) list.words.items ++ stop_of_circles list.circles

@@ -1,0 +1,13 @@
+use Rattle.std.proofs.Common.{◌∙◌, subst}
+use Rattle.machine.specs.Machine.{S}
+use Rattle.ddt_timeline.specs.Runs.{IsRun}
+use Rattle.ddt_timeline.proofs.HistoryLemmas.{past_reached}
+use Rattle.ddt_timeline.proofs.timeline.Timeline.run.Goals as goal
+
+pub returns-clause-run : goal.returns-clause-run
+returns-clause-run g c =
+    subst (λ (s : S). IsRun s c.args.stops.now c.args.most c.run_until-ran.result)
+    (c.in_ok-cut.ensures.machine
+    ∙ c.args.self.now.reached
+    ∙ past_reached c.args.self.now.entries.items c.args.self.now.whole c.args.self.now.part _)
+    c.run_until-ran.ensures.run
