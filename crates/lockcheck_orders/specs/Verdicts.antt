@@ -5,6 +5,7 @@ use Rattle.std.specs.BTreeSet.{BTreeSet}
 use Rattle.std.specs.Ordering.{nat_cmp}
 use Rattle.state_search.specs.Found.{HasMore}
 use Rattle.state_search.specs.Orders.{Leads, IsNotBehind}
+use Rattle.state_search.specs.Watched.{Watched}
 use Rattle.lockcheck_orders.specs.declared.lines.Line.{Line}
 use Rattle.lockcheck_orders.specs.declared.verdicts.Looked.{Looked}
 use Rattle.lockcheck_orders.specs.declared.verdicts.Looked.TheVariants.{All, GaveUp}
@@ -41,18 +42,30 @@ IsCount lines n =
     × ((ks : List ℕ) (s : State) → IsOrder lines ks s → (i : ℕ) × (i < n) × (at i ≡ s))
     × ((i j : ℕ) → i < j → j < n → at i ≢ at j)
 
--- the answers, where they were asked for, are exactly those that some order gives
-abbrev pub AreAnswers : List Line → Option (BTreeSet ℕ) → Type 0
-AreAnswers lines None = Unit {0}
-AreAnswers lines (Some all) = (a : ℕ) → (IsTrue (bag.contains nat_cmp all a) ↔ IsGiven lines a)
+-- exactly those answers that some order gives
+abbrev pub AreGiven : List Line → BTreeSet ℕ → Type 0
+AreGiven lines all = (a : ℕ) → (IsTrue (bag.contains nat_cmp all a) ↔ IsGiven lines a)
 
-pub record IsReport (lines : List Line) (r : Report) : Type 0 where
+-- where the answers are asked for they are told, and are exactly those that some order gives; else none are told
+abbrev pub AreAnswers : List Line → Bool → Option (BTreeSet ℕ) → Type 0
+AreAnswers lines true (Some all) = AreGiven lines all
+AreAnswers lines true None = ⊥
+AreAnswers lines false (Some all) = ⊥
+AreAnswers lines false None = Unit {0}
+
+pub record IsReport (lines : List Line) (with_answers : Bool) (r : Report) : Type 0 where
   pub states : IsCount lines r.states
   pub circle : IsVerdict lines (has_circle lines) (circle_jobs lines) r.circle
   pub stuck : IsVerdict lines (is_stuck lines) (waiting_jobs lines) r.stuck
-  pub answers : AreAnswers lines r.answers
+  pub answers : AreAnswers lines with_answers r.answers
 
--- a report on all orders, of at most so many states; or there are more states
-abbrev pub IsLooked : List Line → ℕ → Looked → Type 0
-IsLooked lines most (All r) = IsReport lines r × (r.states ≤ most)
-IsLooked lines most (GaveUp n) = (n ≡ most) × HasMore (length (jobs_of lines)) (next lines) (first_state lines) most
+-- a report on all orders, of at most so many states, with the answers where they are asked for; or there are more states
+abbrev pub IsLooked : List Line → ℕ → Bool → Looked → Type 0
+IsLooked lines most with_answers (All r) = IsReport lines with_answers r × (r.states ≤ most)
+IsLooked lines most with_answers (GaveUp n) = (n ≡ most) × HasMore (length (jobs_of lines)) (next lines) (first_state lines) most
+
+-- whenever all moves from one state more were made, the observer, w at first and u now, was shown how many states were met
+abbrev pub IsFollowed : {W : Type 0} → List Line → (W → W → ℕ → ℕ → Type 0) → W → W → Looked → Type 0
+IsFollowed lines Looks w u (All r) = Watched (length (jobs_of lines)) (next lines) (first_state lines) Looks w u r.states
+IsFollowed lines Looks w u (GaveUp n) =
+    (done : ℕ) × Watched (length (jobs_of lines)) (next lines) (first_state lines) Looks w u done

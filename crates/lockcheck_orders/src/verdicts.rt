@@ -10,7 +10,7 @@ ghost use Rattle.lockcheck_orders.specs.Origins.{IsKept};
 ghost use Rattle.lockcheck_orders.specs.Packing.{unpacked};
 ghost use Rattle.lockcheck_orders.specs.Programs.{jobs_of};
 ghost use Rattle.lockcheck_orders.specs.Stuck.{is_stuck, waiting_jobs};
-ghost use Rattle.lockcheck_orders.specs.Verdicts.{AreAnswers, IsGiven, IsLooked, IsReport, IsVerdict};
+ghost use Rattle.lockcheck_orders.specs.Verdicts.{AreAnswers, IsFollowed, IsGiven, IsLooked, IsReport, IsVerdict};
 
 use crate::answers::Answers;
 use crate::circles::{Circle, circle_jobs};
@@ -108,7 +108,7 @@ fn answers_if(
     requires whole { IsWhole (length (jobs_of programs.now)) (next programs.now) (first_state programs.now)
         (seen_of (unpacked programs.now) (first_state programs.now) kept.now.met.items) (length kept.now.met.items) }
     requires sound { All (λ m. IsKept programs.now m.state) kept.now.met.items }
-    ensures { IfOk result (AreAnswers programs.now) }
+    ensures { IfOk result (AreAnswers programs.now wanted) }
 {
     if !wanted {
         return Ok(None);
@@ -150,7 +150,7 @@ fn report_on(
     requires whole { IsWhole (length (jobs_of programs.now)) (next programs.now) (first_state programs.now)
         (seen_of (unpacked programs.now) (first_state programs.now) kept.now.met.items) (length kept.now.met.items) }
     requires sound { All (λ m. IsKept programs.now m.state) kept.now.met.items }
-    ensures report { IfOk result (IsReport programs.now) }
+    ensures report { IfOk result (IsReport programs.now with_answers) }
     ensures states { IfOk result (λ r. r.states ≡ length kept.now.met.items) }
 {
     let circle = find_circle(alloc, programs, kept)?;
@@ -164,7 +164,8 @@ fn report_on(
     })
 }
 
-/// Looks at every state that some order leads to, or gives up where there are more than `most`.
+/// Looks at every state that some order leads to, or gives up where there are more than `most`. The answers are told where
+/// they are asked for. `watch` is shown how far the search is.
 pub fn look<W: Watch>(
     alloc: Global,
     programs: &Programs,
@@ -172,7 +173,8 @@ pub fn look<W: Watch>(
     with_answers: bool,
     watch: &mut W,
 ) -> Result<Looked, AllocError>
-    ensures { IfOk result (IsLooked programs.now most) }
+    ensures looked { IfOk result (IsLooked programs.now most with_answers) }
+    ensures followed { IfOk result (IsFollowed programs.now W.Looks watch.old watch.new) }
 {
     let outcome = search(alloc, programs, most, watch)?;
     match outcome {

@@ -3,10 +3,12 @@
 
 mod arguments;
 mod copying;
+mod input;
 mod progress;
 mod reading;
+mod refusals;
 mod report;
-mod rightness;
+mod script_lines;
 mod serving;
 mod statuses;
 

@@ -1,9 +1,12 @@
 //! Reports how far a long search is.
-ghost use Rattle.std.specs.Prelude.{◌≡◌, false};
+ghost use Rattle.std.specs.Prelude.{◌≡◌, false, not, take, ℕ, IfOk};
+ghost use Rattle.lockcheck_program.specs.declared.progress.TheConstants.{EACH};
+ghost use Rattle.std.specs.Io.KnownBytes.{Appends};
+ghost use Rattle.lockcheck_program.specs.Looking.{Tells, is_silent, next_line, progress_line};
 
-use script_io::{ByteOut, write_all};
+use script_io::{ByteOut, push_decimal, write_all};
 use state_search::Watch;
-use std::alloc::Global;
+use std::alloc::{AllocError, Global};
 
 /// A line is written whenever so many more states were met.
 const EACH: usize = 50_000;
@@ -20,10 +23,27 @@ pub struct Progress<W: ByteOut + Drop> {
     ghost sound: { is_closed ≡ false → W.has_failed inner ≡ false },
 }
 
+/// The line on so many states that are met, and so many of them done.
+#[tactic(auto, using(std::proofs::Common::append_assoc))]
+fn progress_line(alloc: Global, met: usize, done: usize) -> Result<Vec<u8>, AllocError>
+    ensures { IfOk result (λ text. text.items ≡ progress_line met done) }
+{
+    let mut text = Vec::new(alloc);
+    text.extend_from_slice(b"lockcheck: ")?;
+    push_decimal(&mut text, met)?;
+    text.extend_from_slice(b" states met, ")?;
+    push_decimal(&mut text, met.saturating_sub(done))?;
+    text.extend_from_slice(b" waiting\n")?;
+    Ok(text)
+}
+
 impl<W: ByteOut + Drop> Progress<W> {
     /// Reports to this port, if reports are wanted.
     pub fn new(alloc: Global, inner: W, is_wanted: bool) -> Self
         requires { W.has_failed inner ≡ false }
+        ensures written { W.written result.inner ≡ W.written inner }
+        ensures closed { result.is_closed ≡ not is_wanted }
+        ensures next { result.next ≡ EACH }
     {
         Progress {
             alloc,
@@ -33,25 +53,28 @@ impl<W: ByteOut + Drop> Progress<W> {
         }
     }
 
-    fn write(&mut self, bytes: &[u8]) {
-        if self.is_closed {
-            return;
-        }
+    fn write(&mut self, bytes: &[u8])
+        requires { self.old.is_closed ≡ false }
+        ensures next { self.new.next ≡ self.old.next }
+        ensures written { (n : ℕ) × Appends (W.written self.old.inner) (W.written self.new.inner) (take n bytes.now) }
+    {
         let written = write_all(&mut self.inner, bytes);
         self.is_closed = written.is_err();
     }
 }
 
 impl<W: ByteOut + Drop> Watch for Progress<W> {
+    ghost Looks = { λ old new met done.
+        Tells (is_silent old.is_closed old.next met) (W.written old.inner) (W.written new.inner) (progress_line met done)
+        × (new.next ≡ next_line (is_silent old.is_closed old.next met) old.next met) };
+
     fn look(&mut self, met: usize, done: usize) {
         if self.is_closed || met < self.next {
             return;
         }
         self.next = met.saturating_add(EACH);
-        let waiting = met.saturating_sub(done);
-        let text = format!(in self.alloc; "lockcheck: {met} states met, {waiting} waiting\n");
-        if let Ok(text) = text {
-            self.write(text.as_str().as_bytes());
+        if let Ok(text) = progress_line(self.alloc, met, done) {
+            self.write(text.as_slice());
         }
     }
 }

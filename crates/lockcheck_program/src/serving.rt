@@ -1,21 +1,23 @@
 //! The whole program over any ports.
-ghost use Rattle.std.specs.Prelude.{◌≡◌, false, IfOk};
+ghost use Rattle.std.specs.Prelude.{◌≡◌, ◌++◌, false, IfErr, IfOk, codes, decimal};
+ghost use Rattle.std.specs.Str.Lines.{lines};
+ghost use Rattle.lockcheck_program.specs.Checks.{Checks, IsFound, WritesText};
+ghost use Rattle.lockcheck_program.specs.Runs.{Runs};
+ghost use Rattle.lockcheck_program.specs.Reading.{IsReason, programs_of};
+ghost use Rattle.lockcheck_program.specs.Reports.{looked_status, looked_text, report_status};
 
 use crate::arguments::read_arguments;
+use crate::input::read_script;
 use crate::reading::{ScriptError, read_programs};
+use crate::refusals::refuse_script;
 use crate::report::report_text;
 use crate::statuses::{CIRCLE, STUCK};
-use lockcheck_orders::{Looked, MOST_LINES, Report, look};
-use program_shell::{
-    DONE, FAILED, Failure, FailureLines, REFUSED, line_at, read_whole, refuse_arguments,
-    report_failure, report_to,
-};
-use queue_faults::explain;
-use script_io::{ByteIn, ByteOut, write_all};
+use lockcheck_orders::{Looked, Programs, Report, look};
+use program_shell::{DONE, FAILED, FailureLines, refuse_arguments, report_to};
+use script_io::{ByteIn, ByteOut, push_decimal, write_all};
 use state_search::Watch;
 use std::alloc::{AllocError, Global};
 use std::convert::AsStr;
-use std::fs;
 use std::rt::Files;
 
 /// The lines by which the program reports a failure.
@@ -25,9 +27,6 @@ pub const FAILURE_LINES: FailureLines = FailureLines {
     memory: b"lockcheck: memory\n",
 };
 
-/// A script of so many bytes is refused as one with too many lines.
-const MOST_BYTES: usize = 1 << 28;
-
 /// What is written, and the exit status.
 #[derive(Drop)]
 struct Answered {
@@ -35,13 +34,52 @@ struct Answered {
     status: u8,
 }
 
-fn status_of(report: &Report) -> u8 {
-    if report.circle.is_some() {
-        CIRCLE
-    } else if report.stuck.is_some() {
-        STUCK
-    } else {
-        DONE
+/// The exit status for a report.
+fn status_of(report: &Report) -> u8
+    ensures { result ≡ report_status report.now.circle report.now.stuck }
+{
+    match (&report.circle, &report.stuck) {
+        (Some(_), _) => CIRCLE,
+        (None, Some(_)) => STUCK,
+        (None, None) => DONE,
+    }
+}
+
+/// The words for a search that gave up.
+#[tactic(auto, using(std::proofs::Common::append_assoc))]
+fn gave_up_text(alloc: Global, states: usize) -> Result<Vec<u8>, AllocError>
+    ensures { IfOk result (λ text. text.items ≡ codes "GAVE UP after " ++ decimal states ++ codes " states\n") }
+{
+    let mut text = Vec::new(alloc);
+    text.extend_from_slice(b"GAVE UP after ")?;
+    push_decimal(&mut text, states)?;
+    text.extend_from_slice(b" states\n")?;
+    Ok(text)
+}
+
+/// The text and the status for what was found.
+fn told(
+    alloc: Global,
+    programs: &Programs,
+    script: &[u8],
+    looked: &Looked,
+) -> Result<Answered, AllocError>
+    ensures text { IfOk result (λ a. a.text.items ≡ looked_text (lines script.now) programs.now looked.now) }
+    ensures status { IfOk result (λ a. a.status ≡ looked_status looked.now) }
+{
+    match looked {
+        Looked::GaveUp(states) => {
+            let text = gave_up_text(alloc, *states)?;
+            Ok(Answered {
+                text,
+                status: FAILED,
+            })
+        }
+        Looked::All(report) => {
+            let text = report_text(alloc, programs, script, report)?;
+            let status = status_of(report);
+            Ok(Answered { text, status })
+        }
     }
 }
 
@@ -52,54 +90,26 @@ fn answer<T: Watch>(
     states: usize,
     all: bool,
     watch: &mut T,
-) -> Result<Answered, ScriptError> {
-    let programs = read_programs(alloc, script)?;
-    match look(alloc, &programs, states, all, watch)? {
-        Looked::GaveUp(states) => {
-            let text = format!(in alloc; "GAVE UP after {states} states\n")?;
-            let mut bytes = Vec::new(alloc);
-            bytes.extend_from_slice(text.as_str().as_bytes())?;
-            Ok(Answered {
-                text: bytes,
-                status: FAILED,
-            })
-        }
-        Looked::All(report) => {
-            let text = report_text(alloc, &programs, script, &report)?;
-            let status = status_of(&report);
-            Ok(Answered { text, status })
-        }
-    }
-}
-
-/// What is wrong with a line of a script, in a line.
-fn line_text(alloc: Global, script: &[u8], number: usize) -> Result<String, AllocError> {
-    let text = explain(alloc, line_at(script, number))?;
-    format!(in alloc; "lockcheck: line {number}: {text}\n")
-}
-
-/// Why a script is refused, in a line; an error where there is no memory for it.
-fn reason_of(alloc: Global, script: &[u8], error: ScriptError) -> Result<String, AllocError> {
-    match error {
-        ScriptError::Memory => Err(AllocError),
-        ScriptError::Line(number) => line_text(alloc, script, number),
-        ScriptError::TooLong => {
-            format!(in alloc; "lockcheck: the script has more than {MOST_LINES} lines\n")
-        }
-    }
-}
-
-/// Reports why a script is refused, and gives the exit status.
-fn refuse_script<E: ByteOut>(alloc: Global, script: &[u8], error: ScriptError, errors: &mut E) -> u8
-    requires { E.has_failed errors.old ≡ false }
+) -> Result<Answered, ScriptError>
+    ensures found { IfOk result (λ a. IsFound T.Looks watch.old watch.new script.now states all a.text.items a.status) }
+    ensures refused { IfErr result (IsReason (programs_of script.now)) }
 {
-    let status = match error {
-        ScriptError::Memory => FAILED,
-        ScriptError::Line(_) | ScriptError::TooLong => REFUSED,
-    };
-    match reason_of(alloc, script, error) {
-        Ok(text) => report_to(errors, text.as_str().as_bytes(), status),
-        Err(_) => report_failure(errors, &FAILURE_LINES, Failure::Memory),
+    let programs = read_programs(alloc, script)?;
+    let looked = look(alloc, &programs, states, all, watch)?;
+    let answered = told(alloc, &programs, script, &looked)?;
+    Ok(answered)
+}
+
+/// Writes a text, and gives the exit status: this one, or `FAILED` where the writer failed, which is reported.
+fn write_text<W: ByteOut, E: ByteOut>(writer: &mut W, text: &[u8], status: u8, errors: &mut E) -> u8
+    requires writer_sound { W.has_failed writer.old ≡ false }
+    requires errors_sound { E.has_failed errors.old ≡ false }
+    ensures { WritesText text.now status (W.written writer.old) (W.written writer.new) (W.has_failed writer.new)
+        (E.written errors.old) (E.written errors.new) (E.has_failed errors.new) result }
+{
+    match write_all(writer, text) {
+        Ok(()) => status,
+        Err(_) => report_to(errors, b"lockcheck: write\n", FAILED),
     }
 }
 
@@ -118,73 +128,13 @@ pub fn check_script<W: ByteOut, E: ByteOut, T: Watch>(
 ) -> u8
     requires writer_sound { W.has_failed writer.old ≡ false }
     requires errors_sound { E.has_failed errors.old ≡ false }
+    ensures { Checks T.Looks watch.old watch.new script.now states all
+        (W.written writer.old) (W.written writer.new) (W.has_failed writer.new)
+        (E.written errors.old) (E.written errors.new) (E.has_failed errors.new) result }
 {
     match answer(alloc, script, states, all, watch) {
-        Ok(answered) => match write_all(writer, answered.text.as_slice()) {
-            Ok(()) => answered.status,
-            Err(_) => report_failure(errors, &FAILURE_LINES, Failure::Write),
-        },
+        Ok(answered) => write_text(writer, answered.text.as_slice(), answered.status, errors),
         Err(error) => refuse_script(alloc, script, error, errors),
-    }
-}
-
-/// The bytes of the script's file; or, where it cannot be read, the exit status for that, which is reported.
-fn read_file<F: Files + AllocGlobal, E: ByteOut>(
-    rt: &F,
-    file: &str,
-    errors: &mut E,
-) -> Result<Vec<u8>, u8>
-    requires { E.has_failed errors.old ≡ false }
-    ensures { IfOk result (λ _. E.has_failed errors.new ≡ false) }
-{
-    let alloc = rt.alloc();
-    let error = match fs::read(rt, file) {
-        Ok(script) => return Ok(script),
-        Err(error) => error,
-    };
-    match format!(in alloc; "lockcheck: {file}: {error}\n") {
-        Ok(text) => Err(report_to(errors, text.as_str().as_bytes(), FAILED)),
-        Err(_) => Err(report_failure(errors, &FAILURE_LINES, Failure::Memory)),
-    }
-}
-
-/// The bytes of the reader; or, where it fails or has too many, the exit status for that, which is reported.
-fn read_input<R: ByteIn, E: ByteOut>(
-    alloc: Global,
-    reader: &mut R,
-    errors: &mut E,
-) -> Result<Vec<u8>, u8>
-    requires reader_sound { R.has_failed reader.old ≡ false }
-    requires errors_sound { E.has_failed errors.old ≡ false }
-    ensures { IfOk result (λ _. E.has_failed errors.new ≡ false) }
-{
-    match read_whole(alloc, reader, MOST_BYTES) {
-        Ok(script) => {
-            if script.len() < MOST_BYTES {
-                Ok(script)
-            } else {
-                Err(refuse_script(alloc, b"", ScriptError::TooLong, errors))
-            }
-        }
-        Err(failure) => Err(report_failure(errors, &FAILURE_LINES, failure)),
-    }
-}
-
-/// The script of the file, if one is named, or of the reader; or the exit status where it cannot be read, which is
-/// reported.
-fn read_script<F: Files + AllocGlobal, R: ByteIn, E: ByteOut>(
-    rt: &F,
-    file: &Option<String>,
-    reader: &mut R,
-    errors: &mut E,
-) -> Result<Vec<u8>, u8>
-    requires reader_sound { R.has_failed reader.old ≡ false }
-    requires errors_sound { E.has_failed errors.old ≡ false }
-    ensures { IfOk result (λ _. E.has_failed errors.new ≡ false) }
-{
-    match file {
-        Some(file) => read_file(rt, file.as_str(), errors),
-        None => read_input(rt.alloc(), reader, errors),
     }
 }
 
@@ -203,6 +153,9 @@ pub fn program<F: Files + AllocGlobal, S: AsStr, R: ByteIn, W: ByteOut, E: ByteO
     requires reader_sound { R.has_failed reader.old ≡ false }
     requires writer_sound { W.has_failed writer.old ≡ false }
     requires errors_sound { E.has_failed errors.old ≡ false }
+    ensures { Runs T.Looks watch.old watch.new (R.to_come reader.old) (R.to_come reader.new)
+        (W.written writer.old) (W.written writer.new) (W.has_failed writer.new)
+        (E.written errors.old) (E.written errors.new) (E.has_failed errors.new) result }
 {
     let alloc = rt.alloc();
     let options = match read_arguments(alloc, arguments) {

@@ -1,0 +1,4 @@
+pub mod JobLemmas
+pub mod ReadingLemmas
+pub mod TextLemmas
+pub mod EndingLemmas
