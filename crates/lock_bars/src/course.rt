@@ -3,6 +3,7 @@ ghost use Rattle.std.specs.Prelude.{◌≡◌, ◌≢◌, ◌+◌, ◌++◌, ◌
 ghost use Rattle.lock_bars.specs.Bars.{bars_after};
 ghost use Rattle.wait_graph.specs.Graphs.{Shows};
 
+use crate::arrows::{Arrow, arrows_in};
 use crate::bars::{Bar, record_line};
 use crate::columns::Column;
 use lock_queue::LockTable;
@@ -20,6 +21,8 @@ pub struct Course {
     pub bars: Vec<Bar>,
     /// Who waits for whom after the line that was asked for, and how many columns there were then.
     pub waits: Option<(Graph, usize)>,
+    /// The waits of that graph, each with its lock.
+    pub arrows: Vec<Arrow>,
 }
 
 impl Course {
@@ -35,6 +38,7 @@ impl Course {
             columns: Vec::new(alloc),
             bars: Vec::new(alloc),
             waits: None,
+            arrows: Vec::new(alloc),
         }
     }
 
@@ -75,6 +79,7 @@ impl Course {
         self.lines = number;
         if at == Some(number) {
             let graph = Graph::of(alloc, table)?;
+            self.arrows = arrows_in(alloc, &graph, table)?;
             self.waits = Some((graph, self.columns.len()));
         }
         Ok(())

@@ -1,5 +1,6 @@
 //! What a picture shows.
 
+use crate::arrows::Arrow;
 use crate::bars::Bar;
 use crate::columns::Column;
 use crate::lanes::Lane;
@@ -20,4 +21,6 @@ pub struct Drawing {
     pub at_column: usize,
     /// Who waits for whom then.
     pub graph: Graph,
+    /// The same, each wait with its lock, by rising numbers of jobs.
+    pub arrows: Vec<Arrow>,
 }

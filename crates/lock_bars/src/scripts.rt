@@ -6,6 +6,7 @@ ghost use Rattle.script_io.specs.declared.endings.Ending.TheVariants as ending;
 ghost use Rattle.wait_graph.specs.Graphs.{Shows};
 ghost use Rattle.lock_bars.specs.Courses.{course, has_line, requests_behind, IsFaultOf};
 
+use crate::arrows::arrows_in;
 use crate::course::Course;
 use crate::drawing::Drawing;
 use crate::errors::ScriptError;
@@ -39,11 +40,17 @@ pub fn drawing_of<L: LockTable>(
         columns,
         bars,
         waits,
+        arrows,
     } = seen;
     let (graph, at_column) = match waits {
         Some(waits) => waits,
         None if at.is_none() => (Graph::of(alloc, table)?, columns.len()),
         None => return Err(ScriptError::Short(lines)),
+    };
+    let arrows = if at.is_none() {
+        arrows_in(alloc, &graph, table)?
+    } else {
+        arrows
     };
     let lanes = lanes_of(alloc, bars.as_slice())?;
     Ok(Drawing {
@@ -53,6 +60,7 @@ pub fn drawing_of<L: LockTable>(
         at: at.unwrap_or(lines),
         at_column,
         graph,
+        arrows,
     })
 }
 

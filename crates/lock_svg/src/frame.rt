@@ -37,8 +37,11 @@ const MOST_WIDTH: usize = 960;
 /// The least width of a column.
 const NARROW: usize = 3;
 
-/// The least width beside the names, for the heading and the legend.
-const LEAST_WIDTH: usize = 420;
+/// The least width beside the names, for the heading.
+const LEAST_WIDTH: usize = 270;
+
+/// The least width of the whole, for the legend.
+const LEAST_WHOLE: usize = 610;
 
 /// The measures of one picture, in pixels.
 #[derive(Clone, Copy, Debug)]
@@ -112,7 +115,8 @@ impl Frame {
             graph_width,
             width: graph_left
                 .saturating_add(graph_width)
-                .saturating_add(MARGIN),
+                .saturating_add(MARGIN)
+                .max(LEAST_WHOLE),
             height: tallest.saturating_add(BOTTOM),
         }
     }
@@ -139,12 +143,16 @@ impl Frame {
 
 /// The distance of the jobs of a graph from its middle.
 pub fn radius_of(jobs: usize) -> usize {
-    jobs.saturating_mul(12).max(70)
+    let few = jobs.min(5).saturating_mul(8).saturating_add(30);
+    jobs.saturating_mul(12).max(few)
 }
 
 /// The width of a graph with so many jobs and the room round them.
 fn graph_width(jobs: usize) -> usize {
-    radius_of(jobs).saturating_mul(2).saturating_add(120)
+    radius_of(jobs)
+        .saturating_mul(2)
+        .saturating_add(120)
+        .max(260)
 }
 
 /// The height of such a graph.

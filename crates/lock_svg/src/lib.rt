@@ -6,6 +6,7 @@ mod frame;
 mod run_course;
 mod svg;
 mod svg_graph;
+mod svg_lines;
 
 pub use along::Along;
 pub use run_course::RunCourse;

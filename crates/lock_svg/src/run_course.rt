@@ -70,6 +70,7 @@ impl RunCourse {
                 let picture = AsSvg {
                     drawing: &drawing,
                     along: Along::Run,
+                    script: b"",
                 };
                 format!(in alloc; "{picture}")
             }

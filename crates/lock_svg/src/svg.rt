@@ -3,6 +3,7 @@
 use crate::along::Along;
 use crate::frame::{BAR, Frame, GAP, LANE, MARGIN, TOP};
 use crate::svg_graph::{jobs_in, write_graph};
+use crate::svg_lines::write_lines;
 use lock_bars::{Bar, Column, Drawing, Lane};
 use std::fmt;
 
@@ -16,6 +17,8 @@ pub struct AsSvg<'a> {
     pub drawing: &'a Drawing,
     /// What its columns stand for.
     pub along: Along,
+    /// The script, whose lines a pointer shows that rests on a column; empty where there is none.
+    pub script: &'a [u8],
 }
 
 /// The styles of the parts.
@@ -26,8 +29,11 @@ text{font:13px system-ui,-apple-system,'Segoe UI','DejaVu Sans',sans-serif;fill:
 .job{font-weight:600}
 .lock{font-family:ui-monospace,'DejaVu Sans Mono',monospace;font-size:12px;text-anchor:end}
 .amount{font-size:10px;fill:#fff}
+.amount.asked{fill:#24303d;font-weight:600}
+.line{fill:#fff}
+.line:hover{fill:#e3e7eb}
 .grid{stroke:#e3e7eb}
-.row{fill:#f4f6f8}
+.row{fill:#f4f6f8;pointer-events:none}
 .owns{fill:#2f6db3}
 .owns.shared{fill:#2b938b}
 .waits{fill:url(#hatch);stroke:#d9822b}
@@ -39,6 +45,7 @@ text{font:13px system-ui,-apple-system,'Segoe UI','DejaVu Sans',sans-serif;fill:
 .node{fill:#fff;stroke:#4a5663;stroke-width:1.6}
 .node.circle{fill:#fdecea;stroke:#c62828}
 .number{font-weight:600;text-anchor:middle}
+.on{font-family:ui-monospace,'DejaVu Sans Mono',monospace;font-size:11px;text-anchor:middle;stroke:#fff;stroke-width:3;paint-order:stroke}
 </style>
 ";
 
@@ -223,11 +230,16 @@ fn write_bar<W: fmt::Write>(
     write_title(f, picture, bar, label)?;
     f.write_str("</rect>\n")?;
     let amount = bar.hold.amount;
-    if amount > 0 && bar.hold.owns && width >= 20 {
+    if amount > 0 && width >= 20 {
         let (x, y) = (x.saturating_add(width / 2), y.saturating_add(11));
+        let class = if bar.hold.owns {
+            "amount"
+        } else {
+            "amount asked"
+        };
         write!(
             f,
-            "<text class=\"amount\" x=\"{x}\" y=\"{y}\">{amount}</text>\n"
+            "<text class=\"{class}\" x=\"{x}\" y=\"{y}\">{amount}</text>\n"
         )?;
     }
     Ok(())
@@ -345,8 +357,8 @@ const LEGEND: &str =
 <rect class=\"waits\" x=\"226\" width=\"28\" height=\"14\" rx=\"2\"/><text x=\"262\" y=\"12\">waits</text>
 <path class=\"grant\" transform=\"translate(329 7)\" d=\"M0 -7L6 0L0 7L-6 0z\"/><text x=\"343\" y=\"12\">is granted</text>
 <path class=\"wait hard\" d=\"M0 33H28\"/><text x=\"36\" y=\"38\">waits for an owner</text>
-<path class=\"wait soft\" d=\"M176 33H204\"/><text x=\"212\" y=\"38\">.. for one in front</text>
-<path class=\"wait circle\" d=\"M340 33H368\"/><text x=\"376\" y=\"38\">.. in a circle</text>
+<path class=\"wait soft\" d=\"M176 33H204\"/><text x=\"212\" y=\"38\">waits for one that asked before</text>
+<path class=\"wait circle\" d=\"M424 33H452\"/><text x=\"460\" y=\"38\">waits in a circle</text>
 </g>
 ";
 
@@ -355,10 +367,11 @@ impl fmt::Display for AsSvg<'_> {
         let (drawing, along) = (self.drawing, self.along);
         let frame = Frame::of(drawing, jobs_in(&drawing.graph));
         write_head(f, &frame, along)?;
+        write_lines(f, &frame, drawing.columns.as_slice(), self.script)?;
         write_axis(f, &frame, drawing.columns.as_slice(), along)?;
         write_lanes(f, &frame, self)?;
         write_rule(f, &frame, drawing.at_column)?;
-        write_graph(f, &drawing.graph, &frame, along, drawing.at)?;
+        write_graph(f, drawing, &frame, along)?;
         write_legend(f, &frame)?;
         f.write_str("</svg>\n")
     }

@@ -2,8 +2,9 @@
 
 use crate::along::Along;
 use crate::frame::{Frame, TOP, radius_of};
+use lock_bars::{Arrow, Drawing, LockLabel};
 use std::fmt;
-use wait_graph::{Graph, NUMBERS, Wait};
+use wait_graph::{Graph, NUMBERS};
 
 /// How many parts the radius of a circle has.
 const RADIUS: usize = 1000;
@@ -85,13 +86,21 @@ fn bent(a: usize, b: usize, from: usize, to: usize) -> usize {
     middle.saturating_add(to / 6).saturating_sub(from / 6)
 }
 
-/// Writes the arrow of a wait. It is bent to one side, so that two waits in opposite directions are apart.
+/// The middle of a bent arrow, between its ends and the point to which it is bent.
+fn middle_of(from: usize, bent_to: usize, to: usize) -> usize {
+    let ends = from.saturating_add(to);
+    ends.saturating_add(bent_to.saturating_mul(2)) / 4
+}
+
+/// Writes the arrow of a wait. It is bent to one side, so that two waits in opposite directions are apart. The name of
+/// the lock stands on it.
 fn write_wait<W: fmt::Write>(
     f: &mut fmt::Formatter<W>,
     graph: &Graph,
     frame: &Frame,
-    wait: Wait,
+    arrow: &Arrow,
 ) -> fmt::Result {
+    let wait = arrow.wait;
     let Point { x: x1, y: y1 } = point_of(graph, frame, wait.job);
     let Point { x: x2, y: y2 } = point_of(graph, frame, wait.other);
     let x = bent(x1, x2, y1, y2);
@@ -106,20 +115,25 @@ fn write_wait<W: fmt::Write>(
         f,
         "<path class=\"wait {kind}{circle}\" d=\"M{x1} {y1}Q{x} {y} {x2} {y2}\" marker-end=\"url(#{head})\">"
     )?;
-    write!(f, "<title>{wait}</title></path>\n")
+    let Some(key) = &arrow.lock else {
+        return write!(f, "<title>{wait}</title></path>\n");
+    };
+    let label = LockLabel(key);
+    let (middle, height) = (middle_of(x1, x, x2), middle_of(y1, y, y2));
+    let foot = height.saturating_add(4);
+    write!(
+        f,
+        "<title>{wait}, for {label}</title></path>\n<text class=\"on\" x=\"{middle}\" y=\"{foot}\">{label}</text>\n"
+    )
 }
 
 fn write_waits<W: fmt::Write>(
     f: &mut fmt::Formatter<W>,
-    graph: &Graph,
+    drawing: &Drawing,
     frame: &Frame,
 ) -> fmt::Result {
-    for job in 1..NUMBERS {
-        for other in 1..NUMBERS {
-            if let Some(wait) = graph.wait(job, other) {
-                write_wait(f, graph, frame, wait)?;
-            }
-        }
+    for arrow in drawing.arrows.as_slice() {
+        write_wait(f, &drawing.graph, frame, arrow)?;
     }
     Ok(())
 }
@@ -152,23 +166,22 @@ fn write_jobs<W: fmt::Write>(
     Ok(())
 }
 
-/// Writes the graph of the waits after the line or tick of this number.
+/// Writes the graph of the waits after the line or tick of a drawing.
 pub fn write_graph<W: fmt::Write>(
     f: &mut fmt::Formatter<W>,
-    graph: &Graph,
+    drawing: &Drawing,
     frame: &Frame,
     along: Along,
-    number: usize,
 ) -> fmt::Result {
     let (x, y) = (frame.graph_left, TOP.saturating_sub(30));
-    let unit = along.unit();
+    let (unit, number) = (along.unit(), drawing.at);
     write!(
         f,
         "<text class=\"heading\" x=\"{x}\" y=\"{y}\">Who waits for whom after {unit} {number}</text>\n"
     )?;
-    if graph.is_empty() {
+    if drawing.graph.is_empty() {
         return write!(f, "<text x=\"{x}\" y=\"{TOP}\">nobody waits</text>\n");
     }
-    write_waits(f, graph, frame)?;
-    write_jobs(f, graph, frame)
+    write_waits(f, drawing, frame)?;
+    write_jobs(f, &drawing.graph, frame)
 }

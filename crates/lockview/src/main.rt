@@ -1,5 +1,5 @@
-//! The program: reads a script from standard input, writes its picture to standard output, and reports to standard
-//! error what is wrong with a line that is refused.
+//! The program: reads a script from a file or standard input, writes its picture to standard output, and reports to
+//! standard error what is wrong with a line that is refused.
 #![tactic(auto)]
 
 use lockview_program::{FAILURE_LINES, program};
@@ -19,7 +19,7 @@ fn main(rt: HostRuntime) -> ExitCode {
     let mut reader = HostIn::new(rt.stdin());
     let mut writer = HostOut::new(rt.stdout());
     let status = program(
-        rt.alloc(),
+        &rt,
         arguments.as_slice(),
         &mut reader,
         &mut writer,

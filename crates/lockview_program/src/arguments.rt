@@ -1,6 +1,6 @@
 //! The command line.
 
-use clap::{ArgMatches, Command};
+use clap::{Arg, ArgMatches, Command};
 use program_shell::{
     Refusal, Wrong, make_flag, make_option, make_top, matches_of, number_of, refused,
 };
@@ -10,22 +10,35 @@ use std::convert::AsStr;
 /// The largest number of a line that `--at` takes.
 const MOST_AT: u64 = 1_000_000;
 
+/// What is written of a script.
+#[derive(Clone, Copy, Debug, PartialEq, Eq)]
+pub enum Form {
+    /// The picture as SVG.
+    Svg,
+    /// The picture as text.
+    Text,
+    /// The script with its answers and their reasons.
+    Explained,
+}
+
 /// What the arguments ask for.
-#[derive(Clone, Copy)]
+#[derive(Drop)]
 pub struct Options {
     /// Whether the script is one of `lockmon run`.
     pub run: bool,
-    /// Whether the picture is written as text.
-    pub text: bool,
+    /// What is written of it.
+    pub form: Form,
     /// The line after which the waits are drawn, where it is not the last.
     pub at: Option<usize>,
+    /// The file of the script, where it is not standard input.
+    pub file: Option<String>,
 }
 
 const ABOUT: &str =
     "Draws who holds which lock and who waits for whom along a script of `lockmon`.";
 
-const END: &str = "Reads the script from standard input and writes the picture, as in:\n\
-    lockview < examples/circle_of_waits.queue > circle.svg\n\
+const END: &str = "Writes the picture to standard output, as in:\n\
+    lockview examples/circle_of_waits.queue > circle.svg\n\
     Status: 0 all done, 1 the script was refused, 2 wrong words, 3 reading, writing or memory failed.";
 
 const RUN: &str = "draw a script of `lockmon run`, and not of `lockmon queue`";
@@ -33,6 +46,15 @@ const RUN: &str = "draw a script of `lockmon run`, and not of `lockmon queue`";
 const TEXT: &str = "write the picture as text for a terminal, and not as SVG";
 
 const AT: &str = "draw the waits after line N of the script, and not after its last";
+
+const EXPLAIN: &str =
+    "write the script with its answers and why a call is refused or waits, and no picture";
+
+const FILE: &str = "the script, and not standard input";
+
+const WRONG_EXPLAIN: &str =
+    "'--explain' takes a script of `lockmon queue`, and makes no picture: it stands with none of \
+    '--run', '--text' and '--at'";
 
 const WRONG_AT: &str =
     "invalid value for '--at <N>': the number of a line of the script, 1 or more, is wanted";
@@ -42,20 +64,49 @@ fn make_command<'a>(alloc: Global) -> Result<Command<'a>, AllocError> {
     let top = make_top(alloc, "lockview", ABOUT, END);
     let with_run = top.arg(make_flag(alloc, "run", RUN))?;
     let with_text = with_run.arg(make_flag(alloc, "text", TEXT))?;
-    with_text.arg(make_option(alloc, "at", AT))
+    let with_at = with_text.arg(make_option(alloc, "at", AT))?;
+    let with_explain = with_at.arg(make_flag(alloc, "explain", EXPLAIN))?;
+    with_explain.arg(Arg::new(alloc, "FILE").help(FILE))
+}
+
+/// The file that is named, if one is.
+fn file_in(alloc: Global, matches: &ArgMatches<'_>) -> Result<Option<String>, AllocError> {
+    match matches.get_str("FILE") {
+        None => Ok(None),
+        Some(name) => Ok(Some(String::from_str(alloc, name)?)),
+    }
+}
+
+/// The line of `--at`, if it is given.
+fn at_in<'a>(matches: &ArgMatches<'a>) -> Result<Option<usize>, Wrong<'a>> {
+    match number_of(matches, "at", MOST_AT) {
+        Ok(Some(line)) => Ok(Some(line as usize)),
+        Ok(None) => Ok(None),
+        Err(_) => Err(Wrong::Other(WRONG_AT)),
+    }
 }
 
 /// What is asked for by what `clap` took.
-fn options_in<'a>(matches: &ArgMatches<'a>) -> Result<Options, Wrong<'a>> {
-    let at = match number_of(matches, "at", MOST_AT) {
-        Ok(Some(line)) => Some(line as usize),
-        Ok(None) => None,
-        Err(_) => return Err(Wrong::Other(WRONG_AT)),
+fn options_in<'a>(alloc: Global, matches: &ArgMatches<'a>) -> Result<Options, Wrong<'a>> {
+    let at = at_in(matches)?;
+    let run = matches.get_flag("run");
+    let is_text = matches.get_flag("text");
+    let is_explained = matches.get_flag("explain");
+    if is_explained && (run || is_text || at.is_some()) {
+        return Err(Wrong::Other(WRONG_EXPLAIN));
+    }
+    let form = if is_explained {
+        Form::Explained
+    } else if is_text {
+        Form::Text
+    } else {
+        Form::Svg
     };
     Ok(Options {
-        run: matches.get_flag("run"),
-        text: matches.get_flag("text"),
+        run,
+        form,
         at,
+        file: file_in(alloc, matches)?,
     })
 }
 
@@ -65,7 +116,7 @@ pub fn read_arguments<S: AsStr>(alloc: Global, arguments: &[S]) -> Result<Option
         return Err(Refusal::Memory);
     };
     let matches = matches_of(&mut command, arguments)?;
-    match options_in(&matches) {
+    match options_in(alloc, &matches) {
         Ok(options) => Ok(options),
         Err(wrong) => Err(refused(alloc, &mut command, wrong)),
     }

@@ -2,17 +2,21 @@
 ghost use Rattle.std.specs.Prelude.{◌<◌};
 
 use lock_bars::Column;
-use std::fmt;
+use program_shell::PendingText;
 
 /// The values of the digits of a line's number, from the left; a script has at most 10,000 lines.
-const WORTHS: [usize; 5] = [10_000, 1_000, 100, 10, 1];
+static WORTHS: [usize; 5] = [10_000, 1_000, 100, 10, 1];
 
-/// Writes so many blanks.
-pub fn write_spaces<W: fmt::Write>(f: &mut fmt::Formatter<W>, count: usize) -> fmt::Result {
+/// Adds so many blanks.
+pub fn say_spaces(text: &mut PendingText, count: usize) {
     for _ in 0..count {
-        f.write_str(" ")?;
+        text.say(" ");
     }
-    Ok(())
+}
+
+/// Adds the last digit of a number.
+fn say_digit(text: &mut PendingText, number: usize) {
+    text.add(&[b'0' + (number % 10) as u8]);
 }
 
 /// Whether the columns are the lines of a script, from the first on.
@@ -25,115 +29,93 @@ fn are_all_lines(columns: &[Column]) -> bool {
     true
 }
 
-/// Writes the tens of the numbers of the lines.
-fn write_tens<W: fmt::Write>(
-    f: &mut fmt::Formatter<W>,
-    lines: usize,
-    margin: usize,
-) -> fmt::Result {
-    f.write_str("line")?;
+/// Adds the tens of the numbers of the lines.
+fn say_tens(text: &mut PendingText, lines: usize, margin: usize) {
+    text.say("line");
     if lines >= 10 {
-        write_spaces(f, margin.saturating_sub(4))?;
+        say_spaces(text, margin.saturating_sub(4));
     }
+    let alloc = text.alloc;
     for ten in 1..lines / 10 + 1 {
         let line = ten.saturating_mul(10);
-        write!(f, "{line:>10}")?;
+        text.say_made(format!(in alloc; "{line:>10}"));
     }
-    f.write_str("\n")
+    text.end_line();
 }
 
-/// Writes the numbers of so many lines: the tens, and the ones below them.
-fn write_lines<W: fmt::Write>(
-    f: &mut fmt::Formatter<W>,
-    lines: usize,
-    margin: usize,
-) -> fmt::Result {
-    write_tens(f, lines, margin)?;
+/// Adds the numbers of so many lines: the tens, and the ones below them.
+fn say_lines(text: &mut PendingText, lines: usize, margin: usize) {
+    say_tens(text, lines, margin);
     if lines == 0 {
-        return Ok(());
+        return;
     }
-    write_spaces(f, margin)?;
+    say_spaces(text, margin);
     for line in 1..lines.saturating_add(1) {
-        let digit = line % 10;
-        write!(f, "{digit}")?;
+        say_digit(text, line);
     }
-    f.write_str("\n")
+    text.end_line();
 }
 
-/// Writes the digits of one value of the lines' numbers, each above its column.
-fn write_digits<W: fmt::Write>(
-    f: &mut fmt::Formatter<W>,
-    columns: &[Column],
-    worth: usize,
-) -> fmt::Result
+/// Adds the digits of one value of the lines' numbers, each above its column.
+fn say_digits(text: &mut PendingText, columns: &[Column], worth: usize)
     requires { 0 < worth }
 {
     for column in columns {
         if column.line < worth {
-            f.write_str(" ")?;
+            text.say(" ");
         } else {
-            let digit = column.line / worth % 10;
-            write!(f, "{digit}")?;
+            say_digit(text, column.line / worth);
         }
     }
-    f.write_str("\n")
+    text.end_line();
 }
 
-/// Writes the numbers of the lines downwards, each above its column.
-fn write_numbers<W: fmt::Write>(
-    f: &mut fmt::Formatter<W>,
-    columns: &[Column],
-    margin: usize,
-) -> fmt::Result {
+/// Adds the numbers of the lines downwards, each above its column.
+fn say_numbers(text: &mut PendingText, columns: &[Column], margin: usize) {
     let greatest = match columns.last() {
         Some(column) => column.line,
         None => 0,
     };
     let mut indent = margin.saturating_sub(4);
-    f.write_str("line")?;
-    for worth in WORTHS {
+    text.say("line");
+    for worth in &WORTHS {
+        let worth = *worth;
         if worth > 0 && worth <= greatest {
-            write_spaces(f, indent)?;
-            write_digits(f, columns, worth)?;
+            say_spaces(text, indent);
+            say_digits(text, columns, worth);
             indent = margin;
         }
     }
-    Ok(())
 }
 
-/// Writes the last digits of the ticks, each above its column.
-fn write_ticks<W: fmt::Write>(
-    f: &mut fmt::Formatter<W>,
-    columns: &[Column],
-    margin: usize,
-) -> fmt::Result {
-    if columns.iter().all(|column| column.tick == 0) {
-        return Ok(());
-    }
-    f.write_str("tick")?;
+/// Adds the last digits of the ticks, each above its column.
+fn say_ticks(text: &mut PendingText, columns: &[Column], margin: usize) {
     let mut blanks = margin.saturating_sub(4);
+    let mut has_ticks = false;
     for column in columns {
         if column.tick == 0 {
             blanks = blanks.saturating_add(1);
         } else {
-            write_spaces(f, blanks)?;
+            if !has_ticks {
+                text.say("tick");
+                has_ticks = true;
+            }
+            say_spaces(text, blanks);
             blanks = 0;
-            let digit = column.tick % 10;
-            write!(f, "{digit}")?;
+            say_digit(text, column.tick);
         }
     }
-    f.write_str("\n")
+    if has_ticks {
+        text.end_line();
+    }
 }
 
-/// Writes the numbers above the columns.
-pub fn write_axis<W: fmt::Write>(
-    f: &mut fmt::Formatter<W>,
-    columns: &[Column],
-    margin: usize,
-) -> fmt::Result {
+/// Adds the numbers above the columns.
+pub fn say_axis(text: &mut PendingText, columns: &[Column], margin: usize) {
     if are_all_lines(columns) {
-        return write_lines(f, columns.len(), margin);
+        say_lines(text, columns.len(), margin);
+    } else {
+        say_numbers(text, columns, margin);
+        say_ticks(text, columns, margin);
     }
-    write_numbers(f, columns, margin)?;
-    write_ticks(f, columns, margin)
 }

@@ -1,12 +1,16 @@
-//! The program that draws who holds which lock, and who waits for whom, along a script; pictures as text.
+//! The program that draws who holds which lock, and who waits for whom, along a script, or explains its answers;
+//! pictures as text.
 #![tactic(auto)]
 
 mod arguments;
 mod axis;
+mod explained;
 mod run_course;
+mod sentences;
 mod serving;
 mod text;
 
+pub use explained::explain_script;
 pub use run_course::draw_run_script;
 pub use serving::{FAILURE_LINES, program};
-pub use text::AsText;
+pub use text::say_picture;

@@ -1,20 +1,23 @@
 //! The whole program over any ports.
-ghost use Rattle.std.specs.Prelude.{◌≡◌, false};
+ghost use Rattle.std.specs.Prelude.{◌≡◌, false, IfOk};
 ghost use Rattle.program_shell.specs.Reports.{WritesOnlyWhenDone};
 
-use crate::arguments::{Options, read_arguments};
+use crate::arguments::{Form, Options, read_arguments};
+use crate::explained::explain_script;
 use crate::run_course::draw_run_script;
-use crate::text::AsText;
+use crate::text::say_picture;
 use fault_text::{NO_ENDASM, Refused, explain};
 use lock_bars::{MOST_LINES, ScriptError, ScriptLines, SourceFault, draw_script};
 use lock_svg::{Along, AsSvg};
 use program_shell::{
-    FAILED, Failure, FailureLines, REFUSED, USAGE, read_whole, refuse_arguments, report_failure,
-    report_to, write_output,
+    FAILED, Failure, FailureLines, PendingText, REFUSED, USAGE, read_whole, refuse_arguments,
+    report_failure, report_to, write_output,
 };
 use script_io::{ByteIn, ByteOut, LINE_LENGTH};
 use std::alloc::{AllocError, Global};
 use std::convert::AsStr;
+use std::fs;
+use std::rt::Files;
 
 /// The lines by which the program reports a failure.
 pub const FAILURE_LINES: FailureLines = FailureLines {
@@ -27,22 +30,42 @@ pub const FAILURE_LINES: FailureLines = FailureLines {
 /// that a longer script has a line too many, or one that is too long, among these.
 const MOST_BYTES: usize = (MOST_LINES + 1) * (LINE_LENGTH + 2);
 
-/// The picture of a script.
-fn picture_of(alloc: Global, script: &[u8], options: Options) -> Result<String, ScriptError> {
+/// Adds the picture of a script.
+fn say_drawing(
+    alloc: Global,
+    text: &mut PendingText,
+    options: &Options,
+    script: &[u8],
+) -> Result<(), ScriptError> {
     let drawing = if options.run {
         draw_run_script(alloc, script, options.at)?
     } else {
         draw_script(alloc, script, options.at)?
     };
-    if options.text {
-        let text = AsText(&drawing);
-        Ok(format!(in alloc; "{text}")?)
+    if options.form == Form::Text {
+        say_picture(text, &drawing, script);
     } else {
         let svg = AsSvg {
             drawing: &drawing,
             along: Along::Script,
+            script,
         };
-        Ok(format!(in alloc; "{svg}")?)
+        text.say_made(format!(in alloc; "{svg}"));
+    }
+    Ok(())
+}
+
+/// Adds what the options ask for of a script.
+fn say_script(
+    alloc: Global,
+    text: &mut PendingText,
+    options: &Options,
+    script: &[u8],
+) -> Result<(), ScriptError> {
+    if options.form == Form::Explained {
+        explain_script(alloc, text, script)
+    } else {
+        say_drawing(alloc, text, options, script)
     }
 }
 
@@ -62,7 +85,7 @@ fn line_at(script: &[u8], number: usize) -> &[u8] {
 /// What is wrong with a line of a script, in a line.
 fn line_text(
     alloc: Global,
-    options: Options,
+    options: &Options,
     script: &[u8],
     number: usize,
 ) -> Result<String, AllocError> {
@@ -91,7 +114,7 @@ fn source_text(alloc: Global, script: &[u8], fault: SourceFault) -> Result<Strin
 /// Why a script is not drawn, in a line; an error where there is no memory for it.
 fn reason_of(
     alloc: Global,
-    options: Options,
+    options: &Options,
     script: &[u8],
     error: ScriptError,
 ) -> Result<String, AllocError> {
@@ -125,33 +148,84 @@ fn status_of(error: ScriptError) -> u8 {
     }
 }
 
-/// Reads the script and writes its picture, as the options ask for it; gives the exit status.
-fn draw<R: ByteIn, W: ByteOut, E: ByteOut>(
+/// The bytes of the script's file; or, where it cannot be read, the exit status for that, which is reported.
+fn read_file<F: Files + AllocGlobal, E: ByteOut>(
+    rt: &F,
+    file: &str,
+    errors: &mut E,
+) -> Result<Vec<u8>, u8>
+    requires { E.has_failed errors.old ≡ false }
+    ensures { IfOk result (λ _. E.has_failed errors.new ≡ false) }
+{
+    let alloc = rt.alloc();
+    let error = match fs::read(rt, file) {
+        Ok(script) => return Ok(script),
+        Err(error) => error,
+    };
+    match format!(in alloc; "lockview: {file}: {error}\n") {
+        Ok(text) => Err(report_to(errors, text.as_str().as_bytes(), FAILED)),
+        Err(_) => Err(report_failure(errors, &FAILURE_LINES, Failure::Memory)),
+    }
+}
+
+/// The bytes of the reader; or, where it fails, the exit status for that, which is reported.
+fn read_input<R: ByteIn, E: ByteOut>(
     alloc: Global,
-    options: Options,
     reader: &mut R,
+    errors: &mut E,
+) -> Result<Vec<u8>, u8>
+    requires reader_sound { R.has_failed reader.old ≡ false }
+    requires errors_sound { E.has_failed errors.old ≡ false }
+    ensures { IfOk result (λ _. E.has_failed errors.new ≡ false) }
+{
+    match read_whole(alloc, reader, MOST_BYTES) {
+        Ok(script) => Ok(script),
+        Err(failure) => Err(report_failure(errors, &FAILURE_LINES, failure)),
+    }
+}
+
+/// The script of the file, if one is named, or of the reader; or the exit status where it cannot be read, which is
+/// reported.
+fn read_script<F: Files + AllocGlobal, R: ByteIn, E: ByteOut>(
+    rt: &F,
+    file: &Option<String>,
+    reader: &mut R,
+    errors: &mut E,
+) -> Result<Vec<u8>, u8>
+    requires reader_sound { R.has_failed reader.old ≡ false }
+    requires errors_sound { E.has_failed errors.old ≡ false }
+    ensures { IfOk result (λ _. E.has_failed errors.new ≡ false) }
+{
+    match file {
+        Some(file) => read_file(rt, file.as_str(), errors),
+        None => read_input(rt.alloc(), reader, errors),
+    }
+}
+
+/// Writes what the options ask for of a script; gives the exit status.
+fn answer<W: ByteOut, E: ByteOut>(
+    alloc: Global,
+    options: &Options,
+    script: &[u8],
     writer: &mut W,
     errors: &mut E,
 ) -> u8
-    requires reader_sound { R.has_failed reader.old ≡ false }
     requires writer_sound { W.has_failed writer.old ≡ false }
     requires errors_sound { E.has_failed errors.old ≡ false }
     ensures silent { WritesOnlyWhenDone (W.has_failed writer.new) (W.written writer.old) (W.written writer.new) result }
 {
-    let script = match read_whole(alloc, reader, MOST_BYTES) {
-        Ok(script) => script,
-        Err(failure) => return report_failure(errors, &FAILURE_LINES, failure),
-    };
-    match picture_of(alloc, script.as_slice(), options) {
-        Ok(picture) => write_output(writer, picture.as_str().as_bytes(), &FAILURE_LINES, errors),
-        Err(error) => refuse_script(alloc, options, script.as_slice(), error, errors),
+    let mut text = PendingText::new(alloc);
+    match say_script(alloc, &mut text, options, script) {
+        Ok(()) if text.is_whole() => write_output(writer, text.as_bytes(), &FAILURE_LINES, errors),
+        Ok(()) => report_failure(errors, &FAILURE_LINES, Failure::Memory),
+        Err(error) => refuse_script(alloc, options, script, error, errors),
     }
 }
 
 /// Reports why a script is not drawn, and gives the exit status.
 fn refuse_script<E: ByteOut>(
     alloc: Global,
-    options: Options,
+    options: &Options,
     script: &[u8],
     error: ScriptError,
     errors: &mut E,
@@ -164,13 +238,14 @@ fn refuse_script<E: ByteOut>(
     }
 }
 
-/// Reads a script of `lockmon queue`, or with `--run` one of `lockmon run`, and writes the picture that the arguments
-/// ask for. They begin with the program's name. Where they ask for the help or the version, it writes that, and reads
+/// Reads the script of the file that the arguments name, or of the reader, and writes what the arguments ask for: a
+/// picture of a script of `lockmon queue`, or with `--run` of `lockmon run`, or the script with its answers and their
+/// reasons. They begin with the program's name. Where they ask for the help or the version, it writes that, and reads
 /// nothing. It gives the exit status: 0 where all was written; 1 where the script is refused, and 2 where the
-/// arguments are, which is reported to `errors`; 3 where the reader, the writer or memory failed. Where it is not 0
-/// nothing was written, but for a beginning where the writer failed.
-pub fn program<S: AsStr, R: ByteIn, W: ByteOut, E: ByteOut>(
-    alloc: Global,
+/// arguments are, which is reported to `errors`; 3 where the file, the reader, the writer or memory failed. Where it is
+/// not 0 nothing was written, but for a beginning where the writer failed.
+pub fn program<F: Files + AllocGlobal, S: AsStr, R: ByteIn, W: ByteOut, E: ByteOut>(
+    rt: &F,
     arguments: &[S],
     reader: &mut R,
     writer: &mut W,
@@ -181,8 +256,13 @@ pub fn program<S: AsStr, R: ByteIn, W: ByteOut, E: ByteOut>(
     requires errors_sound { E.has_failed errors.old ≡ false }
     ensures silent { WritesOnlyWhenDone (W.has_failed writer.new) (W.written writer.old) (W.written writer.new) result }
 {
-    match read_arguments(alloc, arguments) {
-        Ok(options) => draw(alloc, options, reader, writer, errors),
-        Err(refusal) => refuse_arguments(alloc, refusal, &FAILURE_LINES, writer, errors),
+    let alloc = rt.alloc();
+    let options = match read_arguments(alloc, arguments) {
+        Ok(options) => options,
+        Err(refusal) => return refuse_arguments(alloc, refusal, &FAILURE_LINES, writer, errors),
+    };
+    match read_script(rt, &options.file, reader, errors) {
+        Ok(script) => answer(alloc, &options, script.as_slice(), writer, errors),
+        Err(status) => status,
     }
 }

@@ -1,25 +1,20 @@
 //! The picture as text for a terminal.
 
-use crate::axis::{write_axis, write_spaces};
-use lock_bars::{Bar, Drawing, Lane};
-use std::fmt;
-use wait_graph::{Graph, NUMBERS};
-
-/// A picture as text, a character for each column.
-#[derive(Clone, Copy)]
-pub struct AsText<'a>(pub &'a Drawing);
+use crate::axis::{say_axis, say_spaces};
+use lock_bars::{Arrow, Bar, Drawing, Lane, LockLabel, ScriptLines};
+use program_shell::PendingText;
 
 /// The width of `job 63` and of the blanks behind it.
 const JOB_WIDTH: usize = 8;
 
 /// The signs for a lock that is owned, one that is waited for, a grant, and none.
-const OWNS: char = '#';
+const OWNS: u8 = b'#';
 
-const WAITS: char = '/';
+const WAITS: u8 = b'/';
 
-const GRANT: char = '*';
+const GRANT: u8 = b'*';
 
-const NONE: char = '.';
+const NONE: u8 = b'.';
 
 /// The length of the longest name of a lock.
 fn longest_label(lanes: &[Lane]) -> usize {
@@ -31,7 +26,7 @@ fn longest_label(lanes: &[Lane]) -> usize {
 }
 
 /// The sign of a lane in a column.
-fn sign_at(bars: &[Bar], lane: &Lane, column: usize) -> char {
+fn sign_at(bars: &[Bar], lane: &Lane, column: usize) -> u8 {
     for bar in bars {
         if lane.has(bar) && bar.from <= column && column < bar.until {
             if !bar.hold.owns {
@@ -46,75 +41,86 @@ fn sign_at(bars: &[Bar], lane: &Lane, column: usize) -> char {
     NONE
 }
 
-fn write_lane<W: fmt::Write>(
-    f: &mut fmt::Formatter<W>,
-    drawing: &Drawing,
-    lane: &Lane,
-    margin: usize,
-) -> fmt::Result {
+fn say_lane(text: &mut PendingText, drawing: &Drawing, lane: &Lane, margin: usize) {
     let label = lane.label.as_str();
-    write!(f, "{label}")?;
+    text.say(label);
     let written = JOB_WIDTH.saturating_add(label.len());
-    write_spaces(f, margin.saturating_sub(written))?;
+    say_spaces(text, margin.saturating_sub(written));
     for column in 1..drawing.columns.len().saturating_add(1) {
-        let sign = sign_at(drawing.bars.as_slice(), lane, column);
-        write!(f, "{sign}")?;
+        text.add(&[sign_at(drawing.bars.as_slice(), lane, column)]);
     }
-    f.write_str("\n")
+    text.end_line();
 }
 
-/// Writes the lanes; the first of each job has the job's number before it.
-fn write_lanes<W: fmt::Write>(
-    f: &mut fmt::Formatter<W>,
-    drawing: &Drawing,
-    margin: usize,
-) -> fmt::Result {
+/// Adds the lanes; the first of each job has the job's number before it.
+fn say_lanes(text: &mut PendingText, drawing: &Drawing, margin: usize) {
     let mut last = 0;
+    let alloc = text.alloc;
     for lane in drawing.lanes.as_slice() {
         let job = lane.job;
         if job == last {
-            write_spaces(f, JOB_WIDTH)?;
+            say_spaces(text, JOB_WIDTH);
         } else {
-            write!(f, "job {job:<4}")?;
+            text.say_made(format!(in alloc; "job {job:<4}"));
         }
         last = job;
-        write_lane(f, drawing, lane, margin)?;
+        say_lane(text, drawing, lane, margin);
     }
-    Ok(())
 }
 
-/// Writes the waits, by rising numbers of jobs.
-fn write_waits<W: fmt::Write>(f: &mut fmt::Formatter<W>, graph: &Graph) -> fmt::Result {
-    for job in 1..NUMBERS {
-        for other in 1..NUMBERS {
-            if let Some(wait) = graph.wait(job, other) {
-                write!(f, "  {wait}\n")?;
-            }
+/// Adds a wait, with its lock.
+fn say_wait(text: &mut PendingText, arrow: &Arrow) {
+    let alloc = text.alloc;
+    let wait = arrow.wait;
+    text.say_made(format!(in alloc; "  {wait}"));
+    if let Some(key) = &arrow.lock {
+        let label = LockLabel(key);
+        text.say_made(format!(in alloc; ", for {label}"));
+    }
+    text.end_line();
+}
+
+/// Adds who waits for whom.
+fn say_waits(text: &mut PendingText, drawing: &Drawing) {
+    text.say_number("\nAfter line ", drawing.at as u64, ":\n");
+    if drawing.arrows.is_empty() {
+        text.say("  nobody waits\n");
+    }
+    for arrow in drawing.arrows.as_slice() {
+        say_wait(text, arrow);
+    }
+}
+
+/// Adds the lines of the script that have columns, each with its number.
+fn say_script(text: &mut PendingText, drawing: &Drawing, script: &[u8]) {
+    let alloc = text.alloc;
+    let mut lines = ScriptLines::of(script);
+    let mut number = 0usize;
+    let mut last = 0;
+    for column in drawing.columns.as_slice() {
+        if column.line == last {
+            continue;
         }
+        last = column.line;
+        let mut line: &[u8] = b"";
+        for _ in number..column.line {
+            line = lines.next().unwrap_or(b"");
+        }
+        number = column.line;
+        text.say_made(format!(in alloc; "{number:>5}  "));
+        text.add(line);
+        text.end_line();
     }
-    Ok(())
 }
 
-fn write_graph<W: fmt::Write>(
-    f: &mut fmt::Formatter<W>,
-    graph: &Graph,
-    line: usize,
-) -> fmt::Result {
-    write!(f, "\nAfter line {line}:\n")?;
-    if graph.is_empty() {
-        return f.write_str("  nobody waits\n");
-    }
-    write_waits(f, graph)
-}
-
-impl fmt::Display for AsText<'_> {
-    fn fmt<W: fmt::Write>(&self, f: &mut fmt::Formatter<W>) -> fmt::Result {
-        let drawing = self.0;
-        let longest = longest_label(drawing.lanes.as_slice());
-        let margin = JOB_WIDTH.saturating_add(longest).saturating_add(2);
-        write_axis(f, drawing.columns.as_slice(), margin)?;
-        write_lanes(f, drawing, margin)?;
-        f.write_str("\n# owns  / waits  * is granted  . has no request\n")?;
-        write_graph(f, &drawing.graph, drawing.at)
-    }
+/// Adds the picture of a script: a character for each column, the lines of the columns below them, and who waits for
+/// whom.
+pub fn say_picture(text: &mut PendingText, drawing: &Drawing, script: &[u8]) {
+    let longest = longest_label(drawing.lanes.as_slice());
+    let margin = JOB_WIDTH.saturating_add(longest).saturating_add(2);
+    say_axis(text, drawing.columns.as_slice(), margin);
+    say_lanes(text, drawing, margin);
+    text.say("\n# owns  / waits  * is granted  . has no request\n\n");
+    say_script(text, drawing, script);
+    say_waits(text, drawing);
 }

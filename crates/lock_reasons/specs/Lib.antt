@@ -1,0 +1,3 @@
+pub mod Meetings
+pub mod Reasons
+pub mod Ways

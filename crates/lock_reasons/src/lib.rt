@@ -1,0 +1,11 @@
+//! Why the lock queue refuses a call, and who stands in the way of a request that waits.
+#![tactic(auto)]
+
+mod faults;
+mod meetings;
+mod reasons;
+mod ways;
+
+pub use meetings::{Present, Rule};
+pub use reasons::{Met, Reason, reason_of};
+pub use ways::{first_unfit, way_of};
