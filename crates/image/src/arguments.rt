@@ -63,7 +63,15 @@ fn make_source<'a>(alloc: Global) -> Result<Command<'a>, AllocError> {
     let no_labels = make_flag(alloc, "no-labels", "write each address as a number");
     let with_labels = with_from.arg(no_labels)?;
     let no_comments = make_flag(alloc, "no-comments", "write no comments behind the words");
-    with_labels.arg(no_comments)
+    let with_comments = with_labels.arg(no_comments)?;
+    let no_blocks = make_flag(
+        alloc,
+        "no-blocks",
+        "write each word of 0 on a line of its own",
+    );
+    let with_blocks = with_comments.arg(no_blocks)?;
+    let no_texts = make_flag(alloc, "no-texts", "write texts as words");
+    with_blocks.arg(no_texts)
 }
 
 /// `image save`.
@@ -129,6 +137,8 @@ fn command_in(matches: &ArgMatches<'_>) -> Option<ImageCommand> {
             let shown = Shown {
                 labels: !given.get_flag("no-labels"),
                 comments: !given.get_flag("no-comments"),
+                blocks: !given.get_flag("no-blocks"),
+                texts: !given.get_flag("no-texts"),
             };
             Some(ImageCommand::Source { from, shown })
         }

@@ -8,8 +8,6 @@ mod packings;
 mod save_reader;
 mod save_writer;
 mod saves;
-#[cfg(test)]
-mod tests;
 mod to_bytes;
 
 pub use from_bytes::unpack;

@@ -1,5 +1,5 @@
 -- Files and bytes come back.
-use Rattle.std.proofs.Common.{◌≡◌, ◌∙◌, ap, ℕ, ◌<◌, Bool, List, Ok}
+use Rattle.std.proofs.Common.{◌≡◌, ◌∙◌, ap, ℕ, ◌<◌, List, Ok}
 use Rattle.std.specs.Prelude.{All}
 use Rattle.image_files.specs.declared.packings.Packing.{Packing}
 use Rattle.image_files.specs.Images.{IsImage, WordsFit}
@@ -8,6 +8,7 @@ use Rattle.image_files.specs.Saves.{Loaded, save_of}
 use Rattle.image_files.proofs.PackLemmas.{packed_read, unpacked_packed}
 use Rattle.image_files.proofs.SaveLemmas.{save_read}
 use Rattle.image_files.proofs.WordLemmas.{read_fit, save_fit}
+use Rattle.mac_source.specs.declared.shown.Shown.{Shown}
 use Rattle.mac_source.specs.Sources.{source_of}
 use Rattle.mac_source.proofs.Assemblies.{source_comes_to}
 use Rattle.script_io.specs.Transcripts.{closed}
@@ -20,16 +21,16 @@ image_back : (packing : Packing) (image : Loaded) → IsImage image.words image.
 image_back packing image is fit =
     ap (λ r. image_of_words (words_or r)) (packed_read packing (save_of image) (save_fit image is fit)) ∙ ap image_or (save_read image is)
 
-pub file_back : (packing : Packing) (labels comments : Bool) (image : Loaded) → IsImage image.words image.start → WordsFit image.words
-    → saved (Packed packing) (sourced packing labels comments (packed packing (save_of image))).text ≡ closed (packed packing (save_of image)) Done
+pub file_back : (packing : Packing) (shown : Shown) (image : Loaded) → IsImage image.words image.start → WordsFit image.words
+    → saved (Packed packing) (sourced packing shown (packed packing (save_of image))).text ≡ closed (packed packing (save_of image)) Done
 unfolding sourced saved
-file_back packing labels comments image is fit =
+file_back packing shown image is fit =
     let file = packed packing (save_of image) in
-    let source = source_of labels comments (as_assembled image) in
-    let text : (sourced packing labels comments file).text ≡ source =
-    ap (λ r. (told (λ i. source_of labels comments (as_assembled i)) r).text) (image_back packing image is fit) in
+    let source = source_of shown (as_assembled image) in
+    let text : (sourced packing shown file).text ≡ source =
+    ap (λ r. (told (λ i. source_of shown (as_assembled i)) r).text) (image_back packing image is fit) in
     ap (saved (Packed packing)) text
-    ∙ ap (λ r. told (λ i. packed packing (save_of i)) (assembled_or r)) (source_comes_to labels comments (as_assembled image) is fit)
+    ∙ ap (λ r. told (λ i. packed packing (save_of i)) (assembled_or r)) (source_comes_to shown (as_assembled image) is fit)
 
 pub words_back : (from to : Packing) (bytes words : List ℕ) → All (λ b. b < 256) bytes → unpacked from bytes ≡ Ok words
     → repacked to (Packed from) (repacked from (Packed to) bytes).text ≡ closed bytes Done

@@ -1,9 +1,10 @@
 -- What each command of the program writes, and how it ends (this project's profile).
-use Rattle.std.specs.Prelude.{ℕ, Bool, List, [], ◌∷◌, ◌++◌, codes, decimal, Result, Ok, Err, flat_map}
+use Rattle.std.specs.Prelude.{ℕ, List, [], ◌∷◌, ◌++◌, codes, decimal, Result, Ok, Err, flat_map}
 use Rattle.word36.specs.Octal.{word_text}
 use Rattle.mac_layout.specs.Faults.{Fault, number_of}
 use Rattle.mac_asm.specs.Assembly.{Assembled}
 use Rattle.mac_asm.specs.Outcome.{outcome_of}
+use Rattle.mac_source.specs.declared.shown.Shown.{Shown}
 use Rattle.mac_source.specs.Sources.{source_of}
 use Rattle.image_files.specs.declared.packings.Packing.{Packing}
 use Rattle.image_files.specs.declared.packings.PackErrorKind.{PackErrorKind}
@@ -91,8 +92,8 @@ unfoldable pub repacked : Packing → Form → List ℕ → Transcript Ending
 repacked from to bytes = told (written to) (words_in from bytes)
 
 -- `image source`: the source of a core image
-unfoldable pub sourced : Packing → Bool → Bool → List ℕ → Transcript Ending
-sourced from labels comments bytes = told (λ image. source_of labels comments (as_assembled image)) (image_in from bytes)
+unfoldable pub sourced : Packing → Shown → List ℕ → Transcript Ending
+sourced from shown bytes = told (λ image. source_of shown (as_assembled image)) (image_in from bytes)
 
 -- `image list`: the words of a core image by rising address, and its start
 unfoldable pub listed : Packing → List ℕ → Transcript Ending

@@ -1,9 +1,10 @@
 //! Laws on what the program writes. Each function does nothing: its contract is the law.
-ghost use Rattle.std.specs.Prelude.{◌≡◌, ◌<◌, ℕ, Bool, List, Ok, All};
+ghost use Rattle.std.specs.Prelude.{◌≡◌, ◌<◌, ℕ, List, Ok, All};
 ghost use Rattle.image_files.specs.declared.packings.Packing.{Packing as PackingView};
 ghost use Rattle.image_files.specs.Images.{IsImage, WordsFit};
 ghost use Rattle.image_files.specs.Packings.{packed, unpacked};
 ghost use Rattle.image_files.specs.Saves.{Loaded, save_of};
+ghost use Rattle.mac_source.specs.declared.shown.Shown.{Shown as ShownView};
 ghost use Rattle.script_io.specs.Transcripts.{closed};
 ghost use Rattle.image_service.specs.declared.endings.Ending.TheVariants.{Done};
 ghost use Rattle.image_service.specs.declared.endings.Form.TheVariants.{Packed};
@@ -12,8 +13,8 @@ ghost use Rattle.image_service.specs.Transcripts.{repacked, saved, sourced};
 /// The file of an image comes back from its source, saved again.
 #[tactic(auto, using(crate::proofs::Back::file_back))]
 pub fn saved_sources_give_files_back()
-    ensures { (packing : PackingView) (labels comments : Bool) (image : Loaded) → IsImage image.words image.start → WordsFit image.words →
-        saved (Packed packing) (sourced packing labels comments (packed packing (save_of image))).text
+    ensures { (packing : PackingView) (shown : ShownView) (image : Loaded) → IsImage image.words image.start → WordsFit image.words →
+        saved (Packed packing) (sourced packing shown (packed packing (save_of image))).text
         ≡ closed (packed packing (save_of image)) Done }
 {}
 

@@ -9,8 +9,6 @@ mod reading;
 mod repacking;
 mod saving;
 mod sourcing;
-#[cfg(test)]
-mod tests;
 
 pub use endings::{Ending, Form};
 pub use laws::{repacked_there_and_back, saved_sources_give_files_back};

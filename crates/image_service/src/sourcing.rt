@@ -22,7 +22,7 @@ struct Sourcer {
 impl TextService for Sourcer {
     type Ending = Ending;
 
-    ghost transcript = { λ s bytes. sourced s.from s.shown.labels s.shown.comments bytes };
+    ghost transcript = { λ s bytes. sourced s.from s.shown bytes };
 
     #[tactic(auto, unfolding(crate::specs::Transcripts::sourced))]
     fn take_text(&mut self, bytes: &[u8], out: &mut Vec<u8>) -> Result<Ending, AllocError> {
@@ -52,7 +52,7 @@ pub fn serve_source<R: ByteIn, W: ByteOut>(
     requires reader_sound { R.has_failed reader.old ≡ false }
     requires writer_sound { W.has_failed writer.old ≡ false }
     requires few { R.reads_left reader.old ≤ 2 ^ 63 }
-    ensures serves { Serves (sourced from shown.labels shown.comments) (R.to_come reader.old) (R.to_come reader.new)
+    ensures serves { Serves (sourced from shown) (R.to_come reader.old) (R.to_come reader.new)
         (W.written writer.old) (W.written writer.new) result }
     ensures blames { IfErr result (λ e. Blames e (R.has_failed reader.new) (W.has_failed writer.new)) }
 {

@@ -1,6 +1,6 @@
 -- What a source comes to is an image: its addresses rise, and its start fits.
-use Rattle.std.proofs.Common.{◌≡◌, ◌∙◌, sym, ap, subst, ℕ, zero, suc, ◌+◌, ◌-◌, ◌*◌, ◌%◌, ◌^◌, ◌<◌, ◌≤◌, Bool, true, false, nat_eq, nat_le, List, [], ◌∷◌}
-use Rattle.std.proofs.Common.{lit<, filter_map, Option, Some, None, option_map, Result, Ok, Err, length, refl, arith, if◌then◌else◌, get_or}
+use Rattle.std.proofs.Common.{◌≡◌, subst, ℕ, zero, suc, ◌+◌, ◌-◌, ◌%◌, ◌^◌, ◌<◌, ◌≤◌, Bool, true, false, nat_eq, nat_le, List, [], ◌∷◌}
+use Rattle.std.proofs.Common.{lit<, filter_map, Option, Some, None, option_map, Result, Ok, Err, arith, if◌then◌else◌}
 use Rattle.std.specs.Prelude.{ℤ, pos, negsuc, reverse, unwrap_or}
 use Rattle.std.specs.List.{range_with_len, cons_option, last_or}
 use Rattle.std.specs.Map.{lookup}
@@ -12,7 +12,7 @@ use Rattle.mac_layout.specs.Values.{◌>>=◌, Names, residue_of, value_of}
 use Rattle.mac_layout.specs.Addresses.{Placed, first_address}
 use Rattle.mac_layout.specs.Faults.{Fault}
 use Rattle.mac_layout.specs.LaidOut.{Layout, empty_layout, laid_out, addresses_of_literals}
-use Rattle.mac_asm.specs.Words.{fitted, start_of}
+use Rattle.mac_asm.specs.Words.{fitted}
 use Rattle.mac_asm.specs.Assembly.{Assembled, word_at, by_address, start_by, start_from, start_at}
 use Rattle.mac_asm.specs.Outcome.{image_with, lines_with, words_given, outcome_placed, outcome_from, has_end, outcome_read, outcome_of}
 use Rattle.image_files.specs.Images.{IsImage, Rises}

@@ -14,7 +14,9 @@ use Rattle.mac_asm.specs.Outcome.{outcome_of}
 use Rattle.asm_laws.proofs.Told.{image-told}
 use Rattle.image_files.specs.Images.{IsImage, WordsFit}
 use Rattle.mac_source.proofs.PlacedWords.{AreWords, are_words}
-use Rattle.mac_source.specs.Sources.{Style, ArePrinting, AreThere, has_word, can_have_label, is_referred, refers_to, style_with, source_with, source_of}
+use Rattle.mac_source.specs.Sources.{Style, ArePrinting, AreThere, has_word, can_have_label, is_referred, refers_to, style_with, pieces_in, source_with, source_of}
+use Rattle.mac_source.specs.declared.shown.Shown.{Shown}
+use Rattle.mac_source.proofs.PieceLemmas.{ArePieces, are_pieces, pieces_words, heads, heads_are, begins}
 use Rattle.mac_source.proofs.LabelTexts.{label_tells}
 use Rattle.mac_source.proofs.NoteTexts.{style_printing}
 use Rattle.mac_source.proofs.Given.{symbol_at, lines_given}
@@ -184,31 +186,38 @@ pub is_assembly : (style : Style) (image : Assembled) → IsImage image.words im
 unfolding addresses_from
 is_assembly style image is fit there ok =
     let words : AreWords 0 image.words = are_words 0 image.words is.rises fit in
-    let m = pairs style.marked image.words in
-    let lines = lines_given style image.start first_address image.words in
-    let stand = located_lines style image.start first_address image.words in
-    let where_ : lines_at m lines ≡ stand = located_is m style image.start first_address 0 image.words words in
-    let sizes : literal_sizes m (lines_at m lines) ≡ [] = ap (literal_sizes m) where_ ∙ no_sizes m style image.start first_address image.words in
+    let ps = pieces_in style image in
+    let made : ArePieces 0 ps = are_pieces style.blocks style.texts style.marked 0 image.words words in
+    let begun : AreWords 0 (heads ps) = heads_are 0 ps made in
+    let m = pairs style.marked (heads ps) in
+    let lines = lines_given style image.start first_address ps in
+    let stand = located_lines style image.start first_address ps in
+    let where_ : lines_at m lines ≡ stand = located_is m style image.start first_address 0 ps made in
+    let sizes : literal_sizes m (lines_at m lines) ≡ [] = ap (literal_sizes m) where_ ∙ no_sizes m style image.start first_address ps in
     let names : lines_placed m lines ≡ map (placed_line m) stand =
     ap (placed m (lines_at m lines)) (ap (addresses_from (address_after m first_address lines)) sizes)
-    ∙ (ap (λ ls. placed m ls []) where_ ∙ placed_is m style image.start first_address image.words) in
-    let knows : Knows m style.marked = λ p h e. known style.marked p 0 image.words words h e (there p e) in
+    ∙ (ap (λ ls. placed m ls []) where_ ∙ placed_is m style image.start first_address ps) in
+    let knows : Knows m style.marked = λ p h e.
+    known style.marked p 0 (heads ps) begun h e (begins style.blocks style.texts style.marked p image.words e (there p e)) in
     record {
       lines = lines;
       labels = m;
       words = image.words;
-      reads = source_read style ok image;
-      is_map = sym (ap (flat_map labels_at) where_ ∙ labels_are style image.start first_address image.words);
-      once = labels_apart style.marked 0 image.words words;
-      settled = settled style image.start first_address image.words [];
+      reads = source_read style ok image made;
+      is_map = sym (ap (flat_map labels_at) where_ ∙ labels_are style image.start first_address ps);
+      once = labels_apart style.marked 0 (heads ps) begun;
+      settled = settled style image.start first_address ps [];
       literals = ap have_words sizes;
-      allowed = ap are_allowed names ∙ allowed m style image.start first_address 0 image.words words;
-      gives = ap words_at names ∙ words_given m style image.start first_address 0 image.words words knows;
-      labels_below = labels_below style.marked 0 image.words words;
+      allowed = ap are_allowed names ∙ allowed m style image.start first_address 0 ps made;
+      gives =
+          ap words_at names
+          ∙ (words_given m style image.start first_address 0 ps made knows
+          ∙ ap Some (pieces_words style.blocks style.texts style.marked image.words));
+      labels_below = labels_below style.marked 0 (heads ps) begun;
       words_below = words_below 0 image.words words;
       words_apart = words_apart 0 image.words words;
       words_are = sym (by_address_same image.words words);
-      start_is = ap start_at names ∙ starts m style image.start first_address image.words is.start_fits knows;
+      start_is = ap start_at names ∙ starts m style image.start first_address ps is.start_fits knows;
     }
 
 pub comes_to : (style : Style) (image : Assembled) → IsImage image.words image.start → WordsFit image.words → AreThere style.marked image.words → ArePrinting style
@@ -225,10 +234,12 @@ marks_there labels image address h =
     and_parts (can_have_label image.words address) (image.start == address || list_any (refers_to address) image.words) referred.1 in
     (and_parts (nat_lt 0o17 address) (has_word image.words address) able.0).1
 
-pub source_assembles : (labels comments : Bool) (image : Assembled) → IsImage image.words image.start → WordsFit image.words → IsAssembly (source_of labels comments image) image
-source_assembles labels comments image is fit =
-    is_assembly (style_with (own_marks labels image) comments) image is fit (marks_there labels image) (style_printing (own_marks labels image) comments)
+pub source_assembles : (shown : Shown) (image : Assembled) → IsImage image.words image.start → WordsFit image.words → IsAssembly (source_of shown image) image
+source_assembles shown image is fit =
+    is_assembly (style_with (own_marks shown.labels image) shown) image is fit (marks_there shown.labels image)
+    (style_printing (own_marks shown.labels image) shown)
 
-pub source_comes_to : (labels comments : Bool) (image : Assembled) → IsImage image.words image.start → WordsFit image.words → outcome_of (source_of labels comments image) ≡ Ok image
-source_comes_to labels comments image is fit =
-    comes_to (style_with (own_marks labels image) comments) image is fit (marks_there labels image) (style_printing (own_marks labels image) comments)
+pub source_comes_to : (shown : Shown) (image : Assembled) → IsImage image.words image.start → WordsFit image.words → outcome_of (source_of shown image) ≡ Ok image
+source_comes_to shown image is fit =
+    comes_to (style_with (own_marks shown.labels image) shown) image is fit (marks_there shown.labels image)
+    (style_printing (own_marks shown.labels image) shown)

@@ -1,5 +1,5 @@
 -- What the lines of a source stand for.
-use Rattle.std.proofs.Common.{ℕ, ◌+◌, ◌*◌, ◌/◌, ◌^◌, ◌==◌, Bool, true, false, List, [], ◌∷◌, Option, Some, None}
+use Rattle.std.proofs.Common.{ℕ, ◌*◌, ◌/◌, ◌^◌, ◌==◌, Bool, true, false, List, [], ◌∷◌, Option, Some, None}
 use Rattle.word36.specs.Words.{left_half, right_half}
 use Rattle.ka_isa.specs.declared.Fields.{Fields}
 use Rattle.ka_isa.specs.Fields.{fields_of}
@@ -10,10 +10,14 @@ use Rattle.mac_text.specs.declared.syntax.Sign.TheVariants.{Plus}
 use Rattle.mac_text.specs.declared.syntax.Term.TheVariants.{Label}
 use Rattle.mac_text.specs.declared.syntax.SignedTerm.{SignedTerm}
 use Rattle.mac_text.specs.declared.syntax.Instruction.{Instruction}
+use Rattle.mac_text.specs.declared.syntax.TextForm.TheVariants.{Asciz}
 use Rattle.mac_text.specs.declared.syntax.Data.{Data}
 use Rattle.mac_text.specs.declared.syntax.Data.TheVariants as data_of
 use Rattle.mac_text.specs.declared.syntax.Statement.TheVariants as statements
 use Rattle.mac_text.specs.declared.syntax.Line.{Line}
+use Rattle.mac_source.specs.declared.pieces.Piece.{Piece}
+use Rattle.mac_source.specs.declared.pieces.Piece.TheVariants as pieces
+use Rattle.mac_source.specs.Pieces.{place, behind}
 use Rattle.mac_source.specs.Sources.{Style, shown, label_text}
 use Rattle.mac_source.proofs.LabelTexts.{read_number}
 
@@ -52,9 +56,14 @@ abbrev pub symbols_if : Bool → ℕ → List ℕ
 symbols_if true p = symbol_at p ∷ []
 symbols_if false p = []
 
-abbrev pub word_given : Style → ℕ × ℕ → Line
-word_given style x =
-    record { labels = symbols_if (style.marked x.0) x.0; statement = Some (statements.Data (word_data (shown style x.1) x.1)); literals = [] }
+abbrev pub piece_data : Style → Piece → Data
+piece_data style (pieces.Word a w) = word_data (shown style w) w
+piece_data style (pieces.Zeros a n) = data_of.Block (number_alone (read_number n))
+piece_data style (pieces.Text a text) = data_of.Text Asciz text
+
+abbrev pub piece_given : Style → Piece → Line
+piece_given style p =
+    record { labels = symbols_if (style.marked (place p)) (place p); statement = Some (statements.Data (piece_data style p)); literals = [] }
 
 abbrev pub loc_given : ℕ → Line
 loc_given p = record { labels = []; statement = Some (statements.Loc (number_alone (read_number p))); literals = [] }
@@ -66,7 +75,7 @@ abbrev pub loc_if : {X : Type 0} → Bool → X → List X → List X
 loc_if true x rest = rest
 loc_if false x rest = x ∷ rest
 
--- the lines of words, where the address reached is `here`
-unfoldable pub lines_given : Style → ℕ → ℕ → List (ℕ × ℕ) → List Line
+-- the lines of pieces, where the address reached is `here`
+unfoldable pub lines_given : Style → ℕ → ℕ → List Piece → List Line
 lines_given style start here [] = end_given style.marked start ∷ []
-lines_given style start here (x ∷ xs) = loc_if (x.0 == here) (loc_given x.0) (word_given style x ∷ lines_given style start (x.0 + 1) xs)
+lines_given style start here (p ∷ ps) = loc_if (place p == here) (loc_given (place p)) (piece_given style p ∷ lines_given style start (behind p) ps)

@@ -55,6 +55,9 @@ read_number n = digits_value 8 (octal_text n)
 pub number_value : (n : ℕ) → n < 2 ^ 18 → read_number n ≡ n
 number_value n h = octal_value 22 n (omega arith) (omega (arith, h))
 
+pub size_value : (n : ℕ) → n ≤ 2 ^ 18 → read_number n ≡ n
+size_value n h = octal_value 22 n (omega arith) (omega (arith, h))
+
 -- ---- labels
 
 digit_is_name_character : (d : ℕ) → is_digit_of 8 d ≡ true → is_name_character d ≡ true

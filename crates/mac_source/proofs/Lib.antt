@@ -2,6 +2,9 @@ pub mod LabelTexts
 pub mod Given
 pub mod WordValues
 pub mod PlacedWords
+pub mod PieceLemmas
+pub mod PieceLoops
+pub mod PackedTexts
 pub mod WrittenWords
 pub mod WholeSources
 pub mod Addresses

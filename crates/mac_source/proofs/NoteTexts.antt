@@ -10,7 +10,8 @@ use Rattle.word36.specs.Words.{left_half, right_half}
 use Rattle.word36.specs.Octal.{octal, word_text}
 use Rattle.mac_text.specs.Numbers.{is_digit_of}
 use Rattle.mac_source.specs.Notes.{is_printing, sixbit_text, ascii_text, quoted_if, numbers_text, characters_text, note_of}
-use Rattle.mac_source.specs.Sources.{ArePrinting, style_with}
+use Rattle.mac_source.specs.declared.shown.Shown.{Shown}
+use Rattle.mac_source.specs.Sources.{ArePrinting, IsPrinting, comment_if, style_with}
 use Rattle.mac_source.proofs.LabelTexts.{fixed_digits}
 
 printing_between : (c : ℕ) → 32 ≤ c → c ≤ 126 → is_printing c ≡ true
@@ -65,6 +66,9 @@ characters_printing w =
 note_printing : (x : ℕ × ℕ) → list_all is_printing (note_of x) ≡ true
 note_printing x = both (numbers_text x) (characters_text x.1) (numbers_printing x) (characters_printing x.1)
 
-pub style_printing : (marked : ℕ → Bool) (comments : Bool) → ArePrinting (style_with marked comments)
-style_printing marked true x = note_printing x
-style_printing marked false x = tt
+comment_printing : (comments : Bool) (x : ℕ × ℕ) → IsPrinting (comment_if comments x)
+comment_printing true x = note_printing x
+comment_printing false x = tt
+
+pub style_printing : (marked : ℕ → Bool) (shown : Shown) → ArePrinting (style_with marked shown)
+style_printing marked shown x = comment_printing shown.comments x

@@ -1,5 +1,5 @@
 -- Words of 36 bits at rising addresses, by recursion.
-use Rattle.std.proofs.Common.{ℕ, zero, suc, ◌+◌, ◌^◌, ◌<◌, ◌≤◌, List, [], ◌∷◌, arith}
+use Rattle.std.proofs.Common.{ℕ, suc, ◌+◌, ◌^◌, ◌<◌, ◌≤◌, List, [], ◌∷◌, arith}
 use Rattle.image_files.specs.Images.{Rises, WordsFit}
 
 abbrev pub AreWords : ℕ → List (ℕ × ℕ) → Type 0

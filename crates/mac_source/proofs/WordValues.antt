@@ -1,5 +1,5 @@
 -- The value of the statement of a word is the word, where the labels that it speaks of have their addresses.
-use Rattle.std.proofs.Common.{◌≡◌, ◌<◌, ◌∙◌, sym, ap, ℕ, ◌+◌, ◌*◌, ◌/◌, ◌%◌, ◌^◌, ◌==◌, Bool, true, false, nat_eq, nat_le}
+use Rattle.std.proofs.Common.{◌≡◌, ◌<◌, ◌≤◌, ◌∙◌, sym, ap, ℕ, ◌+◌, ◌*◌, ◌/◌, ◌%◌, ◌^◌, ◌==◌, Bool, true, false, nat_eq, nat_le}
 use Rattle.std.proofs.Common.{[], ◌∷◌, Option, Some, None, option_map, if◌then◌else◌, arith, refl}
 use Rattle.std.specs.Prelude.{pos}
 use Rattle.std.proofs.lemmas.Bool.{le-leb}
@@ -12,7 +12,7 @@ use Rattle.mac_text.specs.Printed.{number_alone}
 use Rattle.mac_layout.specs.Values.{◌>>=◌, Names, value_of, residue_of, natural_of}
 use Rattle.mac_layout.specs.Addresses.{count_of}
 use Rattle.mac_asm.specs.Words.{fitted, half_of, register_of, start_of, or_zero, operand_of, with_accumulator, with_operand, instruction_of, halves_of, words_of}
-use Rattle.mac_source.proofs.LabelTexts.{read_number, number_value}
+use Rattle.mac_source.proofs.LabelTexts.{read_number, number_value, size_value}
 use Rattle.mac_source.proofs.Given.{symbol_at, label_alone, address_alone, register_if, operation_data, data_in, word_data}
 
 cond-true : {A : Type 0} (b : Bool) (x y : A) → b ≡ true → (if b then x else y) ≡ x
@@ -71,6 +71,11 @@ start-address names b y h known = ap (λ o. o >>= residue_of 0 262143 262144) (v
 pub count-number : (names : Names) (n : ℕ) → n < 2 ^ 18 → count_of names (number_alone (read_number n)) ≡ Some n
 unfolding count_of natural_of
 count-number names n h = ap (λ o. o >>= natural_of) (value-read names n h)
+
+pub count-size : (names : Names) (n : ℕ) → n ≤ 2 ^ 18 → count_of names (number_alone (read_number n)) ≡ Some n
+unfolding count_of natural_of
+count-size names n h =
+    ap (λ o. o >>= natural_of) (value-number names (read_number n) ∙ ap (λ m. Some (pos m)) (size_value n h))
 
 half-number : (names : Names) (n : ℕ) → n < 2 ^ 18 → half_of names (number_alone (read_number n)) ≡ Some n
 half-number names n h = half-address names false n h (λ e. absurd (cc))

@@ -1,5 +1,5 @@
 -- The lines of a source as they are written: each is in the grammar, has its text, and stands for what is given.
-use Rattle.std.proofs.Common.{◌≡◌, ◌∙◌, ap, ℕ, zero, suc, ◌-◌, ◌*◌, ◌/◌, ◌^◌, ◌==◌, Bool, true, false, List, [], ◌∷◌, ◌++◌}
+use Rattle.std.proofs.Common.{◌≡◌, ◌∙◌, ap, ℕ, zero, suc, ◌-◌, ◌*◌, ◌/◌, ◌^◌, ◌==◌, Bool, true, false, ◌||◌, not, List, [], ◌∷◌, ◌++◌}
 use Rattle.std.proofs.Common.{length, map, Option, Some, None, if◌then◌else◌, refl, arith, append_assoc, append-nil}
 use Rattle.std.specs.Prelude.{codes, slice_index}
 use Rattle.std.specs.List.{list_all}
@@ -17,7 +17,7 @@ use Rattle.mac_text.specs.Names.{symbol_of}
 use Rattle.mac_text.specs.Keywords.{form_of}
 use Rattle.mac_text.specs.Lines.{is_ascii}
 use Rattle.mac_text.specs.Written
-use Rattle.mac_text.specs.Written.{Blanks, NameText, TermText, ExpressionText, IndexText, OperandsText, StatementText, LiteralText, LineText}
+use Rattle.mac_text.specs.Written.{Blanks, NameText, TermText, ExpressionText, IndexText, OperandsText, StatementText, LiteralText, LineText, QuotedText}
 use Rattle.mac_text.specs.Written.{IsLine, IsStatement, literal_text, term_before, operands_before, statement_before, statement_given, statement_literals, line_text, line_given}
 use Rattle.mac_text.specs.Written.{more_before, labels_before, more_literals, more_given}
 use Rattle.mac_text.specs.WrittenSource.{SourceLine, Feed, IsOneLine, is_line_character, end_before, source_line_text, source_line_given}
@@ -26,12 +26,27 @@ use Rattle.mac_text.specs.declared.syntax.Data.TheVariants as data_of
 use Rattle.mac_text.specs.declared.syntax.Statement.TheVariants as statements
 use Rattle.mac_text.proofs.NumberTexts.{is_printed, word_is_printed, octal_is_printed}
 use Rattle.mac_text.proofs.PrintedLemmas.{IsPlain, plain_name}
-use Rattle.mac_source.specs.Sources.{Style, ArePrinting, IsPrinting, shown, mark_text, behind_text, label_text, address_text, instruction_text, halves_text, named_text, statement_text, word_line, loc_text, end_line}
+use Rattle.mac_source.specs.Sources.{Style, ArePrinting, IsPrinting, shown, mark_text, behind_text, label_text, address_text, instruction_text, halves_text, named_text, block_text, asciz_text, contains, delimiter_of, piece_text, piece_line, loc_text, end_line}
+use Rattle.mac_source.specs.declared.pieces.Piece.{Piece}
+use Rattle.mac_source.specs.declared.pieces.Piece.TheVariants as pieces
+use Rattle.mac_source.specs.Pieces.{first, place, is_text_character}
+use Rattle.mac_source.proofs.PieceLemmas.{IsPiece}
+use Rattle.mac_text.specs.declared.syntax.TextForm.TheVariants.{Asciz}
+use Rattle.mac_text.specs.Characters.{is_blank}
+use Rattle.mac_text.specs.Printed.{number_alone}
 use Rattle.mac_source.specs.Notes.{is_printing}
-use Rattle.mac_source.proofs.LabelTexts.{octal_digits, octal_some, label_characters, label_names}
-use Rattle.mac_source.proofs.Given.{address_alone, register_if, data_in, word_data, symbols_if, word_given, loc_given, end_given}
+use Rattle.mac_source.proofs.LabelTexts.{octal_digits, octal_some, label_characters, label_names, read_number}
+use Rattle.mac_source.proofs.Given.{address_alone, register_if, data_in, symbols_if, piece_data, piece_given, loc_given, end_given}
 
 -- ---- parts
+
+neither : (a b : Bool) → (a || b) ≡ false → (not a ≡ true) × (b ≡ false)
+neither false false h = (refl, refl)
+neither true b h = absurd (cc)
+neither false true h = absurd (cc)
+
+not_last : (c : ℕ) → is_text_character c ≡ true → not (c == 126) ≡ true
+not_last c h = grind (arith, nat_tests)
 
 abbrev none : Blanks
 none = record { text = []; blank = refl }
@@ -337,9 +352,59 @@ abbrev line_with : List Written.LabelText → StatementText 8 Literals → Optio
 line_with labels statement comment =
     record { labels = labels; before = one; statement = Some statement; behind = blanks_of comment; comment = comment }
 
-abbrev word_text_line : Style → ℕ × ℕ → LineText 8
-word_text_line style x =
-    line_with (labels_if (style.marked x.0) x.0) (statement_in (shown style x.1) x.1 (name_of (x.1 / 2 ^ 27)) refl) (style.comment x)
+abbrev block_statement : ℕ → StatementText 8 Literals
+block_statement n =
+    Written.Formed (record { text = codes "BLOCK"; characters = refl; names = refl }) (Written.Block (expression one (number_term n)))
+
+-- the delimiter of a text is not in it
+absent : (d : ℕ) (text : List ℕ) → contains d text ≡ false → list_all (λ c. not (c == d)) text ≡ true
+absent d [] h = refl
+absent d (c ∷ cs) h =
+    let parts = neither (c == d) (contains d cs) h in
+    rw (parts.0, absent d cs parts.1) refl
+
+last_absent : (text : List ℕ) → list_all is_text_character text ≡ true → list_all (λ c. not (c == 126)) text ≡ true
+last_absent [] h = refl
+last_absent (c ∷ cs) h =
+    let parts = and_parts (is_text_character c) (list_all is_text_character cs) h in
+    rw (not_last c parts.0, last_absent cs parts.1) refl
+
+abbrev delimiter_if : Bool → Bool → ℕ
+delimiter_if slash quote = if slash then (if quote then 126 else 34) else 47
+
+within_if : (text : List ℕ) → list_all is_text_character text ≡ true → (slash quote : Bool) → contains 47 text ≡ slash → contains 34 text ≡ quote
+    → list_all (λ c. not (c == delimiter_if slash quote)) text ≡ true
+within_if text h false quote e k = absent 47 text e
+within_if text h true false e k = absent 34 text k
+within_if text h true true e k = last_absent text h
+
+firm_if : (slash quote : Bool) → is_blank (delimiter_if slash quote) ≡ false
+firm_if false quote = refl
+firm_if true false = refl
+firm_if true true = refl
+
+abbrev quoted : (text : List ℕ) → list_all is_text_character text ≡ true → QuotedText
+quoted text h =
+    record {
+      before = one;
+      delimiter = delimiter_of text;
+      text = text;
+      firm = firm_if (contains 47 text) (contains 34 text);
+      within = within_if text h (contains 47 text) (contains 34 text) refl refl;
+    }
+
+abbrev asciz_statement : (text : List ℕ) → list_all is_text_character text ≡ true → StatementText 8 Literals
+asciz_statement text h =
+    Written.Formed (record { text = codes "ASCIZ"; characters = refl; names = refl }) (Written.Text Asciz (quoted text h))
+
+abbrev piece_statement : Style → (p : Piece) → IsPiece p → StatementText 8 Literals
+piece_statement style (pieces.Word a w) is = statement_in (shown style w) w (name_of (w / 2 ^ 27)) refl
+piece_statement style (pieces.Zeros a n) is = block_statement n
+piece_statement style (pieces.Text a text) is = asciz_statement text is.0
+
+abbrev piece_text_line : Style → (p : Piece) → IsPiece p → LineText 8
+piece_text_line style p is =
+    line_with (labels_if (style.marked (place p)) (place p)) (piece_statement style p is) (style.comment (first p))
 
 abbrev loc_statement : ℕ → StatementText 8 Literals
 loc_statement p = Written.Formed (record { text = codes "LOC"; characters = refl; names = refl }) (Written.Loc (expression one (number_term p)))
@@ -357,17 +422,31 @@ comment_is : (comment : Option (List ℕ)) → (blanks_of comment).text ++ Writt
 comment_is None = refl
 comment_is (Some comment) = refl
 
-abbrev bare_word : Style → ℕ × ℕ → List ℕ
-bare_word style x =
-    mark_text (style.marked x.0) x.0 ++ (32 ∷ (statement_text (shown style x.1) x.1 ++ behind_text (style.comment x)))
+block_before : (n : ℕ) (rest : List ℕ) → statement_before literal_text (block_statement n) rest ≡ block_text n ++ rest
+unfolding more_before
+block_before n rest = simp append_assoc
 
-word_text_is : (style : Style) (x : ℕ × ℕ) → line_text (word_text_line style x) ≡ bare_word style x
-word_text_is style x =
-    let o = name_of (x.1 / 2 ^ 27) in
-    let tail = (blanks_of (style.comment x)).text ++ Written.comment_text (style.comment x) in
-    labels_are (style.marked x.0) x.0 (32 ∷ statement_before literal_text (statement_in (shown style x.1) x.1 o refl) tail)
-    ∙ ap (λ t. mark_text (style.marked x.0) x.0 ++ (32 ∷ t))
-    (statement_text_is (shown style x.1) x.1 o refl tail ∙ ap (λ t. statement_text (shown style x.1) x.1 ++ t) (comment_is (style.comment x)))
+asciz_before : (text : List ℕ) (h : list_all is_text_character text ≡ true) (rest : List ℕ)
+    → statement_before literal_text (asciz_statement text h) rest ≡ asciz_text text ++ rest
+asciz_before text h rest = simp append_assoc
+
+piece_before : (style : Style) (p : Piece) (is : IsPiece p) (rest : List ℕ)
+    → statement_before literal_text (piece_statement style p is) rest ≡ piece_text style p ++ rest
+piece_before style (pieces.Word a w) is rest = statement_text_is (shown style w) w (name_of (w / 2 ^ 27)) refl rest
+piece_before style (pieces.Zeros a n) is rest = block_before n rest
+piece_before style (pieces.Text a text) is rest = asciz_before text is.0 rest
+
+abbrev bare_piece : Style → Piece → List ℕ
+bare_piece style p =
+    mark_text (style.marked (place p)) (place p) ++ (32 ∷ (piece_text style p ++ behind_text (style.comment (first p))))
+
+piece_text_is : (style : Style) (p : Piece) (is : IsPiece p) → line_text (piece_text_line style p is) ≡ bare_piece style p
+piece_text_is style p is =
+    let comment = style.comment (first p) in
+    let tail = (blanks_of comment).text ++ Written.comment_text comment in
+    labels_are (style.marked (place p)) (place p) (32 ∷ statement_before literal_text (piece_statement style p is) tail)
+    ∙ ap (λ t. mark_text (style.marked (place p)) (place p) ++ (32 ∷ t))
+    (piece_before style p is tail ∙ ap (λ t. piece_text style p ++ t) (comment_is comment))
 
 printing_is_printed : (c : ℕ) → is_printing c ≡ true → is_printed c ≡ true
 printing_is_printed c h = grind (arith, nat_tests)
@@ -386,14 +465,42 @@ label_printed : (b : Bool) (p : ℕ) → list_all is_printed (mark_text b p) ≡
 label_printed true p = both (label_text p) (58 ∷ []) (word_is_printed (label_text p) (label_characters p)) refl
 label_printed false p = refl
 
-word_printed : (style : Style) (x : ℕ × ℕ) → IsPrinting (style.comment x) → list_all is_printed (bare_word style x) ≡ true
-word_printed style x ok =
-    let statement = statement_text (shown style x.1) x.1 in
-    let rest = statement ++ behind_text (style.comment x) in
-    both (mark_text (style.marked x.0) x.0) (32 ∷ rest) (label_printed (style.marked x.0) x.0)
+block_printed : (n : ℕ) → list_all is_printed (block_text n) ≡ true
+block_printed n = both (codes "BLOCK ") (octal_text n) refl (octal_is_printed n)
+
+character_printed : (c : ℕ) → is_text_character c ≡ true → is_printed c ≡ true
+character_printed c h = grind (arith, nat_tests)
+
+characters_printed : (text : List ℕ) → list_all is_text_character text ≡ true → list_all is_printed text ≡ true
+characters_printed [] h = refl
+characters_printed (c ∷ cs) h =
+    let parts = and_parts (is_text_character c) (list_all is_text_character cs) h in
+    behind c cs (character_printed c parts.0) (characters_printed cs parts.1)
+
+delimiter_printed : (slash quote : Bool) → is_printed (delimiter_if slash quote) ≡ true
+delimiter_printed false quote = refl
+delimiter_printed true false = refl
+delimiter_printed true true = refl
+
+asciz_printed : (text : List ℕ) → list_all is_text_character text ≡ true → list_all is_printed (asciz_text text) ≡ true
+asciz_printed text h =
+    let d = delimiter_of text in
+    let firm : is_printed d ≡ true = delimiter_printed (contains 47 text) (contains 34 text) in
+    both (codes "ASCIZ ") (d ∷ (text ++ d ∷ [])) refl
+    (behind d (text ++ d ∷ []) firm (both text (d ∷ []) (characters_printed text h) (behind d [] firm refl)))
+
+statement_text_printed : (style : Style) (p : Piece) → IsPiece p → list_all is_printed (piece_text style p) ≡ true
+statement_text_printed style (pieces.Word a w) is = statement_printed (shown style w) w (name_of (w / 2 ^ 27)) refl
+statement_text_printed style (pieces.Zeros a n) is = block_printed n
+statement_text_printed style (pieces.Text a text) is = asciz_printed text is.0
+
+piece_printed : (style : Style) (p : Piece) → IsPiece p → IsPrinting (style.comment (first p)) → list_all is_printed (bare_piece style p) ≡ true
+piece_printed style p is ok =
+    let rest = piece_text style p ++ behind_text (style.comment (first p)) in
+    both (mark_text (style.marked (place p)) (place p)) (32 ∷ rest) (label_printed (style.marked (place p)) (place p))
     (behind 32 rest refl
-    (both statement (behind_text (style.comment x)) (statement_printed (shown style x.1) x.1 (name_of (x.1 / 2 ^ 27)) refl)
-    (comment_printed (style.comment x) ok)))
+    (both (piece_text style p) (behind_text (style.comment (first p))) (statement_text_printed style p is)
+    (comment_printed (style.comment (first p)) ok)))
 
 abbrev bare_loc : ℕ → List ℕ
 bare_loc p = codes " LOC " ++ octal_text p
@@ -426,10 +533,23 @@ end_printed marked start = both (codes " END ") (address_text marked start) refl
 
 -- ---- the lines with their ends
 
-pub word_source : (style : Style) → ArePrinting style → ℕ × ℕ → SourceLine
-word_source style ok x =
-    source_line (word_text_line style x) (statement_legal (shown style x.1) x.1 (name_of (x.1 / 2 ^ 27)) refl)
-    (ap (list_all is_printed) (word_text_is style x) ∙ word_printed style x (ok x))
+block_legal : (n : ℕ) → IsStatement false literal_text (block_statement n)
+unfolding form_of
+block_legal n = (refl, refl)
+
+asciz_legal : (text : List ℕ) (h : list_all is_text_character text ≡ true) → IsStatement false literal_text (asciz_statement text h)
+unfolding form_of
+asciz_legal text h = (refl, refl)
+
+piece_legal : (style : Style) (p : Piece) (is : IsPiece p) → IsStatement false literal_text (piece_statement style p is)
+piece_legal style (pieces.Word a w) is = statement_legal (shown style w) w (name_of (w / 2 ^ 27)) refl
+piece_legal style (pieces.Zeros a n) is = block_legal n
+piece_legal style (pieces.Text a text) is = asciz_legal text is.0
+
+pub piece_source : (style : Style) → ArePrinting style → (p : Piece) → IsPiece p → SourceLine
+piece_source style ok p is =
+    source_line (piece_text_line style p is) (piece_legal style p is)
+    (ap (list_all is_printed) (piece_text_is style p is) ∙ piece_printed style p is (ok (first p)))
 
 pub loc_source : ℕ → SourceLine
 loc_source p = source_line (line_with [] (loc_statement p) None) (loc_legal p) (ap (list_all is_printed) (loc_text_is p) ∙ loc_printed p)
@@ -452,32 +572,49 @@ symbols_are : (b : Bool) (p : ℕ) → map (λ l. symbol_of l.name.text) (labels
 symbols_are true p = refl
 symbols_are false p = refl
 
-word_means : (style : Style) (x : ℕ × ℕ) → line_given (word_text_line style x) ≡ word_given style x
-word_means style x =
-    let o = name_of (x.1 / 2 ^ 27) in
+block_means : (n : ℕ) → statement_given (block_statement n) ≡ statements.Data (data_of.Block (number_alone (read_number n)))
+unfolding more_given
+block_means n = refl
+
+block_holds : (n : ℕ) → statement_literals (block_statement n) ≡ []
+unfolding more_literals
+block_holds n = refl
+
+given_means : (style : Style) (p : Piece) (is : IsPiece p) → statement_given (piece_statement style p is) ≡ statements.Data (piece_data style p)
+given_means style (pieces.Word a w) is = statement_means (shown style w) w (name_of (w / 2 ^ 27)) refl
+given_means style (pieces.Zeros a n) is = block_means n
+given_means style (pieces.Text a text) is = refl
+
+given_holds : (style : Style) (p : Piece) (is : IsPiece p) → statement_literals (piece_statement style p is) ≡ []
+given_holds style (pieces.Word a w) is = statement_holds (shown style w) w (name_of (w / 2 ^ 27)) refl
+given_holds style (pieces.Zeros a n) is = block_holds n
+given_holds style (pieces.Text a text) is = refl
+
+piece_means : (style : Style) (p : Piece) (is : IsPiece p) → line_given (piece_text_line style p is) ≡ piece_given style p
+piece_means style p is =
     ap (λ ls. record {
       labels = ls;
-      statement = Some (statement_given (statement_in (shown style x.1) x.1 o refl));
-      literals = map (λ l. l.given) (statement_literals (statement_in (shown style x.1) x.1 o refl));
-    }) (symbols_are (style.marked x.0) x.0)
+      statement = Some (statement_given (piece_statement style p is));
+      literals = map (λ l. l.given) (statement_literals (piece_statement style p is));
+    }) (symbols_are (style.marked (place p)) (place p))
     ∙ (ap (λ s. record {
-      labels = symbols_if (style.marked x.0) x.0;
+      labels = symbols_if (style.marked (place p)) (place p);
       statement = Some s;
-      literals = map (λ l. l.given) (statement_literals (statement_in (shown style x.1) x.1 o refl));
-    }) (statement_means (shown style x.1) x.1 o refl)
+      literals = map (λ l. l.given) (statement_literals (piece_statement style p is));
+    }) (given_means style p is)
     ∙ ap (λ ls. record {
-      labels = symbols_if (style.marked x.0) x.0;
-      statement = Some (statements.Data (word_data (shown style x.1) x.1));
+      labels = symbols_if (style.marked (place p)) (place p);
+      statement = Some (statements.Data (piece_data style p));
       literals = map (λ l. l.given) ls;
-    }) (statement_holds (shown style x.1) x.1 o refl))
+    }) (given_holds style p is))
 
-pub word_stands : (style : Style) (ok : ArePrinting style) (x : ℕ × ℕ) → Stands (word_source style ok x) (word_line style x) (word_given style x)
-unfolding word_source source_line
-word_stands style ok x =
+pub piece_stands : (style : Style) (ok : ArePrinting style) (p : Piece) (is : IsPiece p) → Stands (piece_source style ok p is) (piece_line style p) (piece_given style p)
+unfolding piece_source source_line
+piece_stands style ok p is =
     record {
       radix = refl;
-      before = λ rest. ap (λ t. t ++ 10 ∷ rest) (word_text_is style x) ∙ simp append_assoc;
-      means = word_means style x;
+      before = λ rest. ap (λ t. t ++ 10 ∷ rest) (piece_text_is style p is) ∙ simp append_assoc;
+      means = piece_means style p is;
     }
 
 loc_means : (p : ℕ) → line_given (line_with [] (loc_statement p) None) ≡ loc_given p

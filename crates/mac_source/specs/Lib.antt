@@ -1,3 +1,4 @@
 pub mod Notes
+pub mod Pieces
 pub mod Sources
 pub mod Marks

@@ -14,6 +14,10 @@ use Rattle.ka_isa.specs.Text.{accumulator_text, index_text}
 use Rattle.mac_layout.specs.Addresses.{first_address}
 use Rattle.mac_asm.specs.Assembly.{Assembled}
 use Rattle.mac_source.specs.Notes.{is_printing, note_of}
+use Rattle.mac_source.specs.Pieces.{first, place, behind, pieces_of}
+use Rattle.mac_source.specs.declared.pieces.Piece.{Piece}
+use Rattle.mac_source.specs.declared.pieces.Piece.TheVariants as pieces
+use Rattle.mac_source.specs.declared.shown.Shown.{Shown}
 
 -- ---- words
 
@@ -44,11 +48,13 @@ statement_text marked w = named_text marked (name_of (w / 2 ^ 27)) w
 
 -- ---- lines
 
--- how a source is written: the addresses that have labels, the words whose address is written by its label, and the comment
--- behind the line of a word
+-- how a source is written: the addresses that have labels, the words whose address is written by its label, whether words of
+-- 0 stand in blocks and texts in ASCIZ, and the comment behind the line whose first word this is
 pub record Style : Type 0 where
   pub marked : ℕ → Bool
   pub by_label : ℕ → Bool
+  pub blocks : Bool
+  pub texts : Bool
   pub comment : ℕ × ℕ → Option (List ℕ)
 
 -- the addresses that a word writes by their labels
@@ -70,23 +76,48 @@ abbrev pub behind_text : Option (List ℕ) → List ℕ
 behind_text None = []
 behind_text (Some comment) = 32 ∷ 59 ∷ comment
 
+-- as `BLOCK 12`
+abbrev pub block_text : ℕ → List ℕ
+block_text n = codes "BLOCK " ++ octal_text n
+
+abbrev pub contains : ℕ → List ℕ → Bool
+contains d text = list_any (λ c. c == d) text
+
+-- the first of / and " and ~ that is not in a text
+abbrev pub delimiter_of : List ℕ → ℕ
+delimiter_of text = if contains 47 text then (if contains 34 text then 126 else 34) else 47
+
+-- as `ASCIZ /HELLO/`
+abbrev pub asciz_text : List ℕ → List ℕ
+asciz_text text = codes "ASCIZ " ++ delimiter_of text ∷ (text ++ delimiter_of text ∷ [])
+
+abbrev pub piece_text : Style → Piece → List ℕ
+piece_text style (pieces.Word a w) = statement_text (shown style w) w
+piece_text style (pieces.Zeros a n) = block_text n
+piece_text style (pieces.Text a text) = asciz_text text
+
 -- a label, where the address has one, the statement, and the comment
-abbrev pub word_line : Style → ℕ × ℕ → List ℕ
-word_line style x =
-    mark_text (style.marked x.0) x.0 ++ (32 ∷ (statement_text (shown style x.1) x.1 ++ (behind_text (style.comment x) ++ line_feed)))
+abbrev pub piece_line : Style → Piece → List ℕ
+piece_line style p =
+    mark_text (style.marked (place p)) (place p)
+    ++ (32 ∷ (piece_text style p ++ (behind_text (style.comment (first p)) ++ line_feed)))
 
 abbrev pub end_line : (ℕ → Bool) → ℕ → List ℕ
 end_line marked start = codes " END " ++ (address_text marked start ++ line_feed)
 
--- the lines of words, where the address reached is `here`
-unfoldable pub lines_text : Style → ℕ → ℕ → List (ℕ × ℕ) → List ℕ
+-- the lines of pieces, where the address reached is `here`
+unfoldable pub lines_text : Style → ℕ → ℕ → List Piece → List ℕ
 lines_text style start here [] = end_line style.marked start
-lines_text style start here (x ∷ xs) =
-    (if x.0 == here then [] else loc_text x.0) ++ (word_line style x ++ lines_text style start (x.0 + 1) xs)
+lines_text style start here (p ∷ ps) =
+    (if place p == here then [] else loc_text (place p)) ++ (piece_line style p ++ lines_text style start (behind p) ps)
+
+-- the pieces of an image in a style
+abbrev pub pieces_in : Style → Assembled → List Piece
+pieces_in style image = pieces_of style.blocks style.texts style.marked image.words
 
 -- the source of an image in a style
 abbrev pub source_with : Style → Assembled → List ℕ
-source_with style image = lines_text style image.start first_address image.words
+source_with style image = lines_text style image.start first_address (pieces_in style image)
 
 -- the image has a word at this address
 abbrev pub has_word : List (ℕ × ℕ) → ℕ → Bool
@@ -161,10 +192,11 @@ is_referred image address =
 abbrev pub comment_if : Bool → ℕ × ℕ → Option (List ℕ)
 comment_if comments x = if comments then Some (note_of x) else None
 
--- labels at these addresses, and comments or none
-abbrev pub style_with : (ℕ → Bool) → Bool → Style
-style_with marked comments = record { marked = marked; by_label = is_reaching; comment = comment_if comments }
+-- labels at these addresses, and the rest as it is to be shown
+abbrev pub style_with : (ℕ → Bool) → Shown → Style
+style_with marked shown =
+    record { marked = marked; by_label = is_reaching; blocks = shown.blocks; texts = shown.texts; comment = comment_if shown.comments }
 
--- the source of an image, with labels where the image refers to, if labels are wanted, and comments, if they are wanted
-abbrev pub source_of : Bool → Bool → Assembled → List ℕ
-source_of labels comments image = source_with (style_with (λ address. labels && is_referred image address) comments) image
+-- the source of an image, with labels where the image refers to, if labels are wanted
+abbrev pub source_of : Shown → Assembled → List ℕ
+source_of shown image = source_with (style_with (λ address. shown.labels && is_referred image address) shown) image

@@ -1,11 +1,14 @@
 //! Sources that give images back.
 #![tactic(auto)]
 
+mod characters;
 mod laws;
 mod lines;
 mod marks;
 mod notes;
+mod pieces;
 mod reaching;
+mod shown;
 mod sources;
 mod texts;
 
@@ -14,4 +17,5 @@ pub use laws::{
     sources_of_images_assemble,
 };
 pub use reaching::reaches_memory;
-pub use sources::{Shown, source_of};
+pub use shown::Shown;
+pub use sources::source_of;

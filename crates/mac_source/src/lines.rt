@@ -1,11 +1,16 @@
 //! The lines of a source.
 ghost use Rattle.std.specs.Prelude.{◌≡◌, ◌<◌, ◌^◌, ◌++◌, ◌==◌, OnOk, length, if◌then◌else◌, []};
-ghost use Rattle.mac_source.specs.Sources.{loc_text, mark_text, behind_text, comment_if, style_with, word_line, end_line};
+ghost use Rattle.mac_source.specs.Sources.{asciz_text, block_text, contains, delimiter_of, loc_text, mark_text};
+ghost use Rattle.mac_source.specs.Sources.{behind_text, comment_if, piece_text, style_with, piece_line, end_line};
+ghost use Rattle.mac_source.specs.Pieces.{first, place};
 ghost use Rattle.mac_source.specs.Marks.{marked_by};
 
+use crate::characters::Characters;
 use crate::notes::push_note;
+use crate::pieces::{Piece, first};
+use crate::shown::Shown;
 use crate::texts::{push_address, push_label, push_octal, push_statement};
-use std::alloc::AllocError;
+use std::alloc::{AllocError, Global};
 use word36::Word;
 
 /// Adds the line that sets an address, where the address reached is another.
@@ -34,7 +39,7 @@ fn push_mark(out: &mut Vec<u8>, marks: &[bool], address: u32) -> Result<(), Allo
     Ok(())
 }
 
-/// Adds the comment behind a word, where comments are wanted.
+/// Adds the comment behind a line, where comments are wanted: of its first word.
 #[tactic(auto, using(std::proofs::Common::append_assoc))]
 fn push_comment(
     out: &mut Vec<u8>,
@@ -51,22 +56,81 @@ fn push_comment(
     Ok(())
 }
 
-/// Adds the line of a word.
-pub fn push_word_line(
+/// Adds the statement of so many words of 0.
+#[tactic(auto, using(std::proofs::Common::append_assoc))]
+fn push_block(out: &mut Vec<u8>, count: u32) -> Result<(), AllocError>
+    ensures { OnOk result (out.new.items ≡ out.old.items ++ block_text count) }
+{
+    out.extend_from_slice(b"BLOCK ")?;
+    push_octal(out, count)
+}
+
+/// Whether a text has a character.
+fn contains(text: &[u8], character: u8) -> bool
+    ensures { result ≡ contains character text.now }
+{
+    text.iter().any(|one| *one == character)
+}
+
+/// A character that is not in a text, where `~` is not.
+fn delimiter_of(text: &[u8]) -> u8
+    ensures { result ≡ delimiter_of text.now }
+{
+    if !contains(text, b'/') {
+        return b'/';
+    }
+    if contains(text, b'"') { b'~' } else { b'"' }
+}
+
+/// Adds the statement of a text.
+#[tactic(auto, using(std::proofs::Common::append_assoc))]
+fn push_text(alloc: Global, out: &mut Vec<u8>, characters: &Characters) -> Result<(), AllocError>
+    ensures { OnOk result (out.new.items ≡ out.old.items ++ asciz_text characters.now) }
+{
+    let text = characters.in_order(alloc)?;
+    let delimiter = delimiter_of(text.as_slice());
+    out.extend_from_slice(b"ASCIZ ")?;
+    out.push(delimiter)?;
+    out.extend_from_slice(text.as_slice())?;
+    out.push(delimiter)?;
+    Ok(())
+}
+
+/// Adds the statement of a piece.
+fn push_piece(
+    alloc: Global,
     out: &mut Vec<u8>,
     marks: &[bool],
-    comments: bool,
-    address: u32,
-    word: Word,
+    shown: Shown,
+    piece: &Piece,
+) -> Result<(), AllocError>
+    requires { length marks.now ≡ 2 ^ 18 }
+    ensures { OnOk result (out.new.items ≡ out.old.items ++ piece_text (style_with (marked_by marks.now) shown) piece.now) }
+{
+    match piece {
+        Piece::Word(_, word) => push_statement(out, marks, *word),
+        Piece::Zeros(_, count) => push_block(out, *count),
+        Piece::Text(_, characters) => push_text(alloc, out, characters),
+    }
+}
+
+/// Adds the line of a piece.
+pub fn push_piece_line(
+    alloc: Global,
+    out: &mut Vec<u8>,
+    marks: &[bool],
+    shown: Shown,
+    piece: &Piece,
 ) -> Result<(), AllocError>
     requires marks { length marks.now ≡ 2 ^ 18 }
-    requires address { address < 2 ^ 18 }
-    ensures { OnOk result (out.new.items ≡ out.old.items ++ word_line (style_with (marked_by marks.now) comments) (address, word)) }
+    requires address { place piece.now < 2 ^ 18 }
+    ensures { OnOk result (out.new.items ≡ out.old.items ++ piece_line (style_with (marked_by marks.now) shown) piece.now) }
 {
-    push_mark(out, marks, address)?;
+    let head = first(alloc, piece)?;
+    push_mark(out, marks, head.0)?;
     out.push(b' ')?;
-    push_statement(out, marks, word)?;
-    push_comment(out, comments, address, word)?;
+    push_piece(alloc, out, marks, shown, piece)?;
+    push_comment(out, shown.comments, head.0, head.1)?;
     out.push(b'\n')?;
     Ok(())
 }

@@ -23,7 +23,7 @@ fn sixbit_text(word: Word) -> [u8; 6]
 }
 
 /// The five characters of 7 bits of a word.
-fn ascii_text(word: Word) -> [u8; 5]
+pub fn ascii_text(word: Word) -> [u8; 5]
     ensures { result ≡ ascii_text word }
 {
     let number = word.number();

@@ -1,0 +1,49 @@
+#!/usr/bin/env python3
+"""Damages examples/digits.sav at each of its bytes, and cuts it off at each, and has `image list` read what comes of it. A
+run has to end with status 0 and an image, or with status 1 and a line that names what is wrong and the word where it is.
+The argument is the program; without it the one that `rt ci` built."""
+import os
+import re
+import subprocess
+import sys
+from concurrent.futures import ThreadPoolExecutor
+from pathlib import Path
+
+TOP = Path(__file__).resolve().parent.parent
+IMAGE = re.compile(rb"(?:[0-7]{6} [0-7]{6},,[0-7]{6}\n)*START [0-7]{6}\n")
+REFUSAL = re.compile(rb"\?(?:WORD|SAVE) [1-9][0-9]* [A-Z]+\n")
+REASON = re.compile(rb"image: word [1-9][0-9]*: .+\n")
+DAMAGES = (0x01, 0x08, 0x10, 0x80, 0xFF)
+"""The bits that are turned over, each in turn."""
+
+
+def damaged(whole):
+    """The files that come of a file, each with what was done to it."""
+    for at in range(len(whole)):
+        yield f"cut off at byte {at}", whole[:at]
+        for bits in DAMAGES:
+            yield f"byte {at} with the bits {bits:02x} turned over", whole[:at] + bytes([whole[at] ^ bits]) + whole[at + 1 :]
+
+
+def is_well(program, file):
+    """Whether the program says of a file that it is an image, or what is wrong with it."""
+    run = subprocess.run([program, "list", "--from", "core"], input=file, capture_output=True, timeout=120, check=False)
+    if run.returncode == 0:
+        return IMAGE.fullmatch(run.stdout) and not run.stderr
+    return run.returncode == 1 and REFUSAL.fullmatch(run.stdout) and REASON.fullmatch(run.stderr)
+
+
+def main(words):
+    program = os.path.realpath(words[0]) if words else TOP / "crates/image/out/image"
+    files = list(damaged((TOP / "examples/digits.sav").read_bytes()))
+    with ThreadPoolExecutor(os.cpu_count()) as pool:
+        well = list(pool.map(lambda it: is_well(program, it[1]), files))
+    wrong = [name for (name, _), holds in zip(files, well) if not holds]
+    for name in wrong:
+        print(f"damaged images: {name}: neither an image nor a refusal", file=sys.stderr)
+    print(f"damaged images: {len(files) - len(wrong)} of {len(files)} are told right", file=sys.stderr)
+    return 1 if wrong else 0
+
+
+if __name__ == "__main__":
+    sys.exit(main(sys.argv[1:]))
