@@ -1,0 +1,33 @@
+-- What is said of the file of a core image that is refused (this project's profile).
+use Rattle.std.specs.Prelude.{ℕ, List, ◌++◌, codes, decimal}
+use Rattle.image_files.specs.declared.packings.PackErrorKind.{PackErrorKind}
+use Rattle.image_files.specs.declared.packings.PackErrorKind.TheVariants as pack_kinds
+use Rattle.image_files.specs.declared.saves.SaveErrorKind.{SaveErrorKind}
+use Rattle.image_files.specs.declared.saves.SaveErrorKind.TheVariants as save_kinds
+use Rattle.program_files.specs.declared.faults.ImageFault.{ImageFault}
+use Rattle.program_files.specs.declared.faults.ImageFault.TheVariants as faults
+
+abbrev pub pack_reason : PackErrorKind → List ℕ
+pack_reason pack_kinds.CutShort = codes "the file ends within it"
+pack_reason pack_kinds.ExtraBits = codes "a bit is set that this packing leaves 0"
+
+abbrev pub save_reason : SaveErrorKind → List ℕ
+save_reason save_kinds.NoBlock = codes "an IOWD or the JRST to the start is wanted here"
+save_reason save_kinds.NotRising = codes "a block begins below the end of the one before it"
+save_reason save_kinds.TooHigh = codes "a block ends above 777777"
+save_reason save_kinds.CutShort = codes "the file ends within a block"
+save_reason save_kinds.NoStart = codes "the file ends, and no JRST to the start stands in it"
+save_reason save_kinds.Behind = codes "a word other than 0 stands behind the JRST to the start"
+
+-- `FILE: word N: REASON`
+abbrev pub numbered_text : List ℕ → ℕ → List ℕ → List ℕ
+numbered_text file number reason = file ++ codes ": word " ++ decimal number ++ codes ": " ++ reason
+
+-- what is wrong with which word
+abbrev pub fault_line : List ℕ → ImageFault → List ℕ
+fault_line file (faults.Word number kind) = numbered_text file number (pack_reason kind)
+fault_line file (faults.Save number kind) = numbered_text file number (save_reason kind)
+
+-- behind that, a line on what else the file may be
+abbrev pub fault_text : List ℕ → ImageFault → List ℕ
+fault_text file fault = fault_line file fault ++ codes "\n    --from says how its words are packed: core, dense, ascii or simh\n"

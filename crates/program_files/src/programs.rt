@@ -1,0 +1,65 @@
+//! The programs of files.
+ghost use Rattle.std.specs.Prelude.{◌≡◌};
+ghost use Rattle.mac_asm.specs.Outcome.{outcome_of};
+ghost use Rattle.source_labels.specs.Programs.{AssemblesTo};
+ghost use Rattle.program_files.specs.Files.{IsImageName, IsSourceName, image_in};
+ghost use Rattle.program_files.specs.Reads.{Answers};
+
+use crate::faults::ImageError;
+use crate::images::read_image;
+use crate::names::is_image_name;
+use crate::reasons::fault_text;
+use image_files::Packing;
+use source_labels::{Assembled, Literals, Places, Program, Source, assemble_source};
+use std::alloc::{AllocError, Global};
+use word36::Image;
+
+/// The program of an image, which has no labels and no literals.
+fn program_with<'a>(alloc: Global, file: &'a str, image: Image) -> Program<'a>
+    ensures { result.image ≡ image }
+{
+    Program {
+        file,
+        image,
+        places: Places {
+            labels: Vec::new(alloc),
+            literals: Literals { first: 0, end: 0 },
+        },
+    }
+}
+
+/// The program of a core image, or what is wrong with it.
+fn load_image<'a>(
+    alloc: Global,
+    file: &Source<'a>,
+    from: Packing,
+) -> Result<Assembled<'a>, AllocError>
+    ensures { Answers result file.now.file.now (image_in from file.now.text.items) }
+{
+    match read_image(alloc, from, file.text.as_slice()) {
+        Ok(image) => Ok(Assembled::Program(program_with(alloc, file.file, image))),
+        Err(ImageError::Fault(fault)) => {
+            Ok(Assembled::Refused(fault_text(alloc, file.file, fault)?))
+        }
+        Err(ImageError::Memory) => Err(AllocError),
+    }
+}
+
+/// The program of a file, by its name and its bytes. A name in `.sav` is that of a core image, whose words are packed so:
+/// the program has its words and its start, and no labels. Any other is that of a source, which is assembled. A file that is
+/// refused is no error: the text says what is wrong with it, and has `most` faults of a source at most.
+pub fn read_program<'a>(
+    alloc: Global,
+    file: &Source<'a>,
+    from: Packing,
+    most: usize,
+) -> Result<Assembled<'a>, AllocError>
+    ensures image { IsImageName file.now.file.now → Answers result file.now.file.now (image_in from file.now.text.items) }
+    ensures source { IsSourceName file.now.file.now → AssemblesTo result (outcome_of file.now.text.items) }
+{
+    if is_image_name(file.file) {
+        load_image(alloc, file, from)
+    } else {
+        assemble_source(alloc, file, most)
+    }
+}
