@@ -90,7 +90,8 @@ fn source_text(alloc: Global, lines: &Lines, fault: SourceFault) -> Result<Vec<u
     Ok(text)
 }
 
-/// What is wrong with a line of a source that has a fault of this code.
+/// What is wrong with a line of a source that has a fault of this code. A name that no line of the input defines is told as one
+/// that is not defined.
 fn source_reason(
     alloc: Global,
     lines: &Lines,
@@ -100,7 +101,8 @@ fn source_reason(
     if lines.is_lost() {
         return Err(AllocError);
     }
-    source_faults::explain(alloc, code, lines.line(number).unwrap_or(b""))
+    let line = lines.line(number).unwrap_or(b"");
+    source_faults::explain_in(alloc, code, line, lines.as_bytes())
 }
 
 /// Adds the number of the line.

@@ -77,6 +77,11 @@ impl Lines {
         self.language
     }
 
+    /// The lines that are kept, with their ends.
+    pub fn as_bytes(&self) -> &[u8] {
+        self.bytes.as_slice()
+    }
+
     /// Whether lines are missing for want of memory.
     pub fn is_lost(&self) -> bool {
         self.is_lost

@@ -2,7 +2,7 @@
 
 use crate::commands::Command;
 use crate::line_errors::LineError;
-use crate::numbers::decimal;
+use crate::numbers::pointed_decimal;
 use crate::reader::cut_at;
 use crate::values::{Scope, read_address};
 use word36::{JOBS, LINES};
@@ -93,14 +93,14 @@ fn cut_word(text: &[u8]) -> (&[u8], &[u8]) {
     (text, &[])
 }
 
-/// Reads a decimal number from `least` to `most`; `default` where the text is empty.
+/// Reads a decimal number from `least` to `most`, with or without a point behind it; `default` where the text is empty.
 fn count(text: &[u8], least: u64, most: u64, default: u64) -> Result<u64, LineError> {
     if text.is_empty() {
         return Ok(default);
     }
-    match decimal(text) {
+    match pointed_decimal(text) {
         Some(number) if least <= number && number <= most => Ok(number),
-        _ => Err(LineError::NoCount),
+        _ => Err(LineError::NoCount(least, most)),
     }
 }
 
@@ -113,7 +113,7 @@ fn read_counted<'a>(word: DotCommand, text: &[u8]) -> Result<Command<'a>, LineEr
     };
     let count = count(text, 1, most, default)?;
     let Ok(count) = u32::try_from(count) else {
-        return Err(LineError::NoCount);
+        return Err(LineError::NoCount(1, most));
     };
     match word {
         DotCommand::History => Ok(Command::History(count)),
@@ -125,7 +125,7 @@ fn read_counted<'a>(word: DotCommand, text: &[u8]) -> Result<Command<'a>, LineEr
 /// Reads `.TYPE line text`.
 fn read_type(text: &[u8]) -> Result<Command<'_>, LineError> {
     let (line, typed) = cut_word(text);
-    match decimal(line) {
+    match pointed_decimal(line) {
         Some(number) if number < u64::from(LINES) => Ok(Command::Type(number as u8, typed)),
         _ => Err(LineError::NoLine),
     }
@@ -197,7 +197,7 @@ pub fn read_dot_command<'a>(text: &'a [u8], scope: &Scope<'_>) -> Result<Command
         DotCommand::Ex => read_examine(rest, scope),
         DotCommand::Help => Ok(Command::Help(rest)),
         DotCommand::History | DotCommand::Step | DotCommand::Tick => read_counted(command, rest),
-        DotCommand::Job => match decimal(rest) {
+        DotCommand::Job => match pointed_decimal(rest) {
             Some(number) if 1 <= number && number <= u64::from(JOBS) => {
                 Ok(Command::Job(number as u8))
             }

@@ -157,8 +157,21 @@ fn read_value_line<'a>(text: &[u8], scope: &Scope<'_>) -> Result<Command<'a>, Li
     }
 }
 
+/// The words that a person types who does not know the commands yet.
+static QUESTIONS: [&str; 6] = ["?", "HELP", "QUIT", "EXIT", "H", "Q"];
+
+/// Whether a line is such a word, and no symbol of the program.
+fn asks_for_help(text: &[u8], scope: &Scope<'_>) -> bool {
+    for word in &QUESTIONS {
+        if text.eq_ignore_ascii_case(word.as_bytes()) {
+            return read_value(text, scope).is_err();
+        }
+    }
+    false
+}
+
 /// Reads a line, without its end, as a command, or tells what is wrong with it. Numbers are octal, and decimal with a point
-/// behind them; those of dot commands are decimal.
+/// behind them; those of dot commands are decimal, with a point or without.
 pub fn read_line<'a>(line: &'a [u8], scope: &Scope<'_>) -> Result<Command<'a>, LineError> {
     match line {
         [] => return Ok(Command::Next),
@@ -173,6 +186,7 @@ pub fn read_line<'a>(line: &'a [u8], scope: &Scope<'_>) -> Result<Command<'a>, L
         [b';'] => Ok(Command::Retype(Retype::Text)),
         [b';', ..] => Ok(Command::Remark),
         [b'.', first, ..] if first.is_ascii_alphabetic() => read_dot_command(&text[1..], scope),
+        _ if asks_for_help(text, scope) => Err(LineError::AsksForHelp),
         _ => read_value_line(text, scope),
     }
 }

@@ -39,3 +39,13 @@ pub fn decimal(text: &[u8]) -> Option<u64>
     }
     if value < DECIMALS { Some(value) } else { None }
 }
+
+/// The number of some decimal digits, with or without a point behind them, as `decimal` reads them.
+pub fn pointed_decimal(text: &[u8]) -> Option<u64>
+    ensures { IfSome result (λ n. n < 2 ^ 40) }
+{
+    match text {
+        [digits @ .., b'.'] => decimal(digits),
+        digits => decimal(digits),
+    }
+}

@@ -33,13 +33,15 @@ pub enum Refusal {
     WrongOrder,
     /// The job has had no turn.
     NoTurns,
+    /// A search found no word.
+    NotFound,
 }
 
 impl fmt::Display for Refusal {
     fn fmt<W: fmt::Write>(&self, f: &mut fmt::Formatter<W>) -> fmt::Result {
         let text = match *self {
-            Refusal::FewSteps(steps) => return write!(f, "? so many steps were made: {steps}"),
-            Refusal::NotOpen => "? no place is open: a/ opens one",
+            Refusal::FewSteps(steps) => return write!(f, "? only {steps} steps were made"),
+            Refusal::NotOpen => "? no place is open: LOOP/ opens the place LOOP",
             Refusal::NoLock => "? a lock is named as in .BREAK LOCK A, or by its code as #17",
             Refusal::NoWord => "? the job has no word there",
             Refusal::NoJob => "? there is no such job: .JOBS lists them",
@@ -52,6 +54,7 @@ impl fmt::Display for Refusal {
             Refusal::LineFull => "? the terminal line has no room for more",
             Refusal::WrongOrder => "? the first place is behind the last",
             Refusal::NoTurns => "? the job has had no turn",
+            Refusal::NotFound => "? no word was found",
         };
         f.write_str(text)
     }

@@ -1,5 +1,6 @@
 //! The arguments of the command line.
 
+use image_files::Packing;
 use machine::Config;
 
 /// The arguments of the command line, read and checked.
@@ -7,8 +8,10 @@ use machine::Config;
 pub struct Arguments<'a> {
     /// The blocks of core that the jobs share, and the quantum.
     pub config: Config,
+    /// How the words of core images are packed.
+    pub from: Packing,
     /// The file whose lines are typed where a job waits for characters, if there is one.
     pub input: Option<&'a str>,
-    /// The names of the sources' files, 1 to 63.
+    /// The names of the programs' files, 1 to 63: sources, and core images.
     pub files: Vec<&'a str>,
 }

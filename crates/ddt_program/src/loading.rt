@@ -1,16 +1,23 @@
-//! Sources that are assembled, and the jobs that are logged in for them.
+//! Sources that are assembled, core images that are loaded, and the jobs that are logged in for them.
 
 use crate::session::{Session, SessionJob};
 use ddt_show::{AnswerText, ShownJob};
 use ddt_timeline::{Entry, Timeline};
+use image_files::Packing;
 use monitor::{Answer, RefusedEvent};
-use source_labels::{Assembled, Program, Source, assemble_source, warnings_of};
+use program_files::read_program;
+use source_labels::{Assembled, MOST_REPORTED, Program, Source, warnings_of};
 
-/// Assembles all sources, and reports what is wrong with them, and warnings; `None` where something is wrong.
-fn assemble_all<'a>(report: &mut AnswerText, sources: &[Source<'a>]) -> Option<Vec<Program<'a>>> {
+/// Gives the programs of all files, sources and core images whose words are packed so, and reports what is wrong with them,
+/// and warnings; `None` where something is wrong.
+fn assemble_all<'a>(
+    report: &mut AnswerText,
+    sources: &[Source<'a>],
+    from: Packing,
+) -> Option<Vec<Program<'a>>> {
     let mut programs = Vec::new(report.alloc);
     for source in sources {
-        match assemble_source(report.alloc, source) {
+        match read_program(report.alloc, source, from, MOST_REPORTED) {
             Ok(Assembled::Program(program)) => {
                 let file = program.file;
                 report.say_made(warnings_of(report.alloc, file, &program.image, &program.places));
@@ -73,10 +80,15 @@ fn log_in(session: &mut Session, timeline: &mut Timeline, program: Program<'_>) 
     }
 }
 
-/// Assembles all sources, and logs their programs in at the lines from 0 on; none is started. False where a source or a program
-/// is refused. The answer reports that, and warnings.
-pub fn begin(session: &mut Session, timeline: &mut Timeline, sources: &[Source<'_>]) -> bool {
-    let Some(programs) = assemble_all(&mut session.answer, sources) else {
+/// Reads the programs of all files, of which core images have their words packed so, and logs them in at the lines from 0 on;
+/// none is started. False where a file or a program is refused. The answer reports that, and warnings.
+pub fn begin(
+    session: &mut Session,
+    timeline: &mut Timeline,
+    sources: &[Source<'_>],
+    from: Packing,
+) -> bool {
+    let Some(programs) = assemble_all(&mut session.answer, sources, from) else {
         return false;
     };
     for program in programs {

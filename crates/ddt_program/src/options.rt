@@ -4,6 +4,7 @@ use crate::arguments::Arguments;
 use crate::texts;
 use clap::{Arg, ArgMatches, Command};
 use machine::{Config, MOST_QUANTUM};
+use program_files::{make_from, packing_in};
 use program_shell::{
     Refusal, Wrong, files_in, make_command, matches_of, refused, size_in, with_files,
 };
@@ -37,7 +38,8 @@ fn read_by<'a>(
 /// The command line of the program.
 fn ddt_command<'a>(alloc: Global) -> Result<Command<'a>, AllocError> {
     let top = make_command(alloc, "ddt", texts::PROGRAM, texts::PROGRAM_END)?;
-    let with_input = top.arg(
+    let with_from = top.arg(make_from(alloc))?;
+    let with_input = with_from.arg(
         Arg::new(alloc, "input")
             .long("input")
             .value_name("FILE")
@@ -52,6 +54,7 @@ fn read<'a>(alloc: Global, matches: &ArgMatches<'a>) -> Result<Arguments<'a>, Wr
     let files = files_in(alloc, matches)?;
     Ok(Arguments {
         config: Config::new(size.blocks, size.quantum).unwrap(),
+        from: packing_in(matches)?,
         input: matches.get_str("input"),
         files,
     })

@@ -75,7 +75,7 @@ fn failure_line(alloc: Global, failure: Failure) -> Result<String, AllocError> {
     format!(in alloc; "ddt: {failure}\n")
 }
 
-/// Reads the files of the arguments, and logs a job in for each source; gives the exit status where that fails. The answer reports
+/// Reads the files of the arguments, and logs a job in for each program; gives the exit status where that fails. The answer reports
 /// what is wrong, and warnings, and has the banner for a person.
 fn load<H: Host>(
     host: &H,
@@ -89,7 +89,7 @@ fn load<H: Host>(
         || !read_input(host, arguments.input, session)
     {
         Some(FAILED)
-    } else if begin(session, timeline, sources.as_slice()) {
+    } else if begin(session, timeline, sources.as_slice(), arguments.from) {
         if host.is_person() {
             session.answer.say(texts::BANNER);
         }

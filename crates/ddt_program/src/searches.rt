@@ -2,7 +2,7 @@
 
 use crate::session::Session;
 use concrete_machine::Machine;
-use ddt_commands::{Search, SearchKind};
+use ddt_commands::{Refusal, Search, SearchKind};
 use ddt_timeline::Timeline;
 use run_notes::effective_address;
 use word36::{BLOCK_WORDS, Word};
@@ -21,12 +21,13 @@ fn is_found(machine: &Machine, number: u8, search: &Search, word: Word) -> bool 
     }
 }
 
-/// `value<mask>$W` and the like: shows the words in the core of the open job that a search finds.
+/// `value<mask>$W` and the like: shows the words in the core of the open job that a search finds, or that it finds none.
 pub fn search(session: &mut Session, timeline: &Timeline, search: &Search) {
     let number = session.open;
     let Some(view) = timeline.machine().job(number) else {
         return session.show_job(timeline, number);
     };
+    let mut is_any = false;
     for address in 0..view.blocks.saturating_mul(BLOCK_WORDS as u32) {
         let Some(word) = timeline.machine().peek(number, address) else {
             break;
@@ -34,6 +35,10 @@ pub fn search(session: &mut Session, timeline: &Timeline, search: &Search) {
         if is_found(timeline.machine(), number, search, word) {
             session.show_address(timeline, address);
             session.here = address;
+            is_any = true;
         }
+    }
+    if !is_any {
+        session.answer.refuse(Refusal::NotFound);
     }
 }

@@ -76,7 +76,7 @@ impl fmt::Display for Reason<'_> {
                 let found = Quoted(found);
                 write!(
                     f,
-                    "{found} is no option of a lock (/S, /Gn, /B, /Ln with n to {MOST_LEVEL}, /Ps:a and /J are)"
+                    "{found} is no option of a lock (/S, /Gn, /B, /Ln with n to {MOST_LEVEL}, /Ps:a and /J are; a name ends at its \"/\")"
                 )
             }
             Reason::TooLong => write!(f, "a line has at most {LINE_LENGTH} characters"),

@@ -1,6 +1,8 @@
 //! A line of a source as it is read from left to right.
 
 use crate::fault::{Fault, Reason};
+use crate::labels::is_defined;
+use crate::values::{Limits, Value};
 
 /// The kinds of statements, by the values that have to fit.
 #[derive(Clone, Copy, PartialEq, Eq)]
@@ -32,8 +34,12 @@ pub struct Cut<'a> {
     pub column: usize,
 }
 
-/// The first names of a line.
-pub type Names<'a> = [Option<&'a [u8]>; 3];
+/// A part of a line, and the column where it begins.
+#[derive(Clone, Copy)]
+pub struct Piece<'a> {
+    pub text: &'a [u8],
+    pub column: usize,
+}
 
 /// What is left of a line, and what was seen of it.
 #[derive(Clone, Copy)]
@@ -46,15 +52,25 @@ pub struct Cursor<'a> {
     pub kind: Kind,
     /// The last label at its head.
     pub label: Option<&'a [u8]>,
-    /// The first names in its expressions.
-    pub names: Names<'a>,
+    /// The source of the line, by which names are defined or not.
+    source: &'a [u8],
+    /// The first name in its expressions.
+    pub name: Option<Piece<'a>>,
+    /// The first name in its expressions that no line of the source defines.
+    pub unknown: Option<Piece<'a>>,
+    /// Whether it has several names.
+    pub has_several: bool,
+    /// The first value that is known not to fit.
+    pub misfit: Option<Fault<'a>>,
+    /// The first value of which that is not known.
+    pub doubtful: Option<Fault<'a>>,
     /// The first literals.
     pub cuts: [Option<Cut<'a>>; 4],
 }
 
 impl<'a> Cursor<'a> {
-    /// The beginning of a line, whose numbers are of this radix.
-    pub fn new(line: &'a [u8], radix: u8) -> Self {
+    /// The beginning of a line of a source, whose numbers are of this radix.
+    pub fn new(line: &'a [u8], radix: u8, source: &'a [u8]) -> Self {
         Cursor {
             rest: line,
             column: 1,
@@ -62,7 +78,12 @@ impl<'a> Cursor<'a> {
             in_literal: false,
             kind: Kind::Nothing,
             label: None,
-            names: [None; 3],
+            source,
+            name: None,
+            unknown: None,
+            has_several: false,
+            misfit: None,
+            doubtful: None,
             cuts: [None; 4],
         }
     }
@@ -165,13 +186,57 @@ impl<'a> Cursor<'a> {
         }
     }
 
-    /// Notes a name of an expression.
-    pub fn note_name(&mut self, name: &'a [u8]) {
-        for slot in &mut self.names {
-            if slot.is_none() {
-                *slot = Some(name);
-                return;
+    /// Notes a name of an expression, which comes next.
+    pub fn note_name(&mut self, text: &'a [u8]) {
+        let piece = Piece {
+            text,
+            column: self.column,
+        };
+        self.has_several = self.name.is_some();
+        if self.name.is_none() {
+            self.name = Some(piece);
+        }
+        if self.unknown.is_none() && !is_defined(self.source, text) {
+            self.unknown = Some(piece);
+        }
+    }
+
+    /// Notes a value that has to be within limits, where it is not or may not be.
+    pub fn note_value(&mut self, value: Value<'a>, limits: &Limits) {
+        let fault = Fault::at(value.column, Reason::Misfit(value.text, limits.sentence));
+        match value.number {
+            Some(number) if limits.holds(number) => {}
+            Some(_) => {
+                if self.misfit.is_none() {
+                    self.misfit = Some(fault);
+                }
             }
+            None => {
+                if self.doubtful.is_none() {
+                    self.doubtful = Some(fault);
+                }
+            }
+        }
+    }
+
+    /// Takes over what was seen of names and values in a literal.
+    pub fn take_over(&mut self, inner: &Cursor<'a>) {
+        self.name = inner.name;
+        self.unknown = inner.unknown;
+        self.has_several = inner.has_several;
+        self.misfit = inner.misfit;
+        self.doubtful = inner.doubtful;
+    }
+
+    /// What was read since the cursor stood so, as a value of this number.
+    pub fn value_since(&self, start: &Cursor<'a>, number: Option<i64>) -> Value<'a> {
+        let length = start.rest.len().saturating_sub(self.rest.len());
+        let rest = start.rest;
+        let text = rest.get(..length).unwrap_or(rest);
+        Value {
+            text: text.trim_ascii_end(),
+            column: start.column,
+            number,
         }
     }
 

@@ -16,8 +16,8 @@ pub enum Reason<'a> {
     Expected(&'static str, &'a [u8]),
     /// These bytes, and a sentence about them.
     Is(&'a [u8], &'static str),
-    /// One of these names, or of more behind them, is not defined.
-    OneOf(&'a [u8], &'a [u8], bool),
+    /// This value does not fit, and what its limits are.
+    Misfit(&'a [u8], &'static str),
 }
 
 impl fmt::Display for Reason<'_> {
@@ -32,13 +32,9 @@ impl fmt::Display for Reason<'_> {
                 let found = Quoted(found);
                 write!(f, "{found} {sentence}")
             }
-            Reason::OneOf(first, second, more) => {
-                let (first, second) = (Quoted(first), Quoted(second));
-                if more {
-                    write!(f, "{first}, {second} or a name behind them is not defined")
-                } else {
-                    write!(f, "{first} or {second} is not defined")
-                }
+            Reason::Misfit(value, limits) => {
+                let value = Quoted(value);
+                write!(f, "{value} does not fit: {limits}")
             }
         }
     }

@@ -5,12 +5,14 @@
 mod any_fault;
 mod cursor;
 mod fault;
+mod labels;
 mod lines;
 mod located;
 mod operands;
 mod quoted;
 mod statements;
+mod values;
 
 pub use any_fault::FaultOf;
-pub use located::{Located, explain, locate};
+pub use located::{Located, explain, explain_in, locate};
 pub use quoted::{Found, NOT_ASCII, Quoted, column_not_ascii};

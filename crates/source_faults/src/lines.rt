@@ -6,16 +6,16 @@ use crate::fault::{Fault, Reason};
 use crate::quoted::{NOT_ASCII, column_not_ascii};
 use crate::statements::{read_labels, read_statement};
 
-/// What is wrong with a line that has a fault of this code, 1 to 7. The column is one of the line, or the
+/// What is wrong with a line of a source that has a fault of this code, 1 to 7. The column is one of the line, or the
 /// one just behind it.
-pub fn fault_of(line: &[u8], code: u8) -> Fault<'_>
+pub fn fault_of<'a>(line: &'a [u8], code: u8, source: &'a [u8]) -> Fault<'a>
     ensures { result.column ≤ length line.now + 1 }
 {
     let fault = match code {
         1 => syntax_of(line),
-        2 => unknown_name(line),
+        2 => unknown_name(line, source),
         3 => twice(line),
-        4 => Fault::whole(Reason::Said(limit_of(seen(line).kind))),
+        4 => misfit_of(line),
         5 => Fault::whole(Reason::Said(
             "LOC and BLOCK take numbers and labels of earlier lines, and no literal",
         )),
@@ -25,9 +25,9 @@ pub fn fault_of(line: &[u8], code: u8) -> Fault<'_>
     fault.within(line.len())
 }
 
-/// Reads a line whose numbers are of this radix, and then its literals.
-fn read<'a>(line: &'a [u8], radix: u8) -> (Cursor<'a>, Result<(), Fault<'a>>) {
-    let mut cursor = Cursor::new(line, radix);
+/// Reads a line of a source whose numbers are of this radix, and then its literals.
+fn read<'a>(line: &'a [u8], radix: u8, source: &'a [u8]) -> (Cursor<'a>, Result<(), Fault<'a>>) {
+    let mut cursor = Cursor::new(line, radix, source);
     read_labels(&mut cursor);
     let mut outcome = read_statement(&mut cursor);
     let whole = cursor;
@@ -40,11 +40,11 @@ fn read<'a>(line: &'a [u8], radix: u8) -> (Cursor<'a>, Result<(), Fault<'a>>) {
     (cursor, outcome)
 }
 
-/// Reads a literal of a line, and notes the names in it.
+/// Reads a literal of a line, and notes the names and the values in it.
 fn read_literal<'a>(cut: Cut<'a>, cursor: &mut Cursor<'a>) -> Result<(), Fault<'a>> {
     let mut inner = cursor.inside(cut);
     let outcome = read_statement(&mut inner);
-    cursor.names = inner.names;
+    cursor.take_over(&inner);
     outcome
 }
 
@@ -59,7 +59,7 @@ fn first_of<'a>(one: Result<(), Fault<'a>>, other: Result<(), Fault<'a>>) -> Res
 
 /// The fault of a line that is in the grammar: none is found.
 fn seen(line: &[u8]) -> Cursor<'_> {
-    let (cursor, _) = read(line, 10);
+    let (cursor, _) = read(line, 10, &[]);
     cursor
 }
 
@@ -70,7 +70,7 @@ fn syntax_of(line: &[u8]) -> Fault<'_> {
         return Fault::at(column, Reason::Said(NOT_ASCII));
     }
     for radix in [10, 8, 2] {
-        let (_, outcome) = read(line, radix);
+        let (_, outcome) = read(line, radix, &[]);
         if let Err(fault) = outcome {
             return fault;
         }
@@ -78,19 +78,39 @@ fn syntax_of(line: &[u8]) -> Fault<'_> {
     Fault::whole(Reason::Said("not a line of this assembler"))
 }
 
-fn unknown_name(line: &[u8]) -> Fault<'_> {
-    let cursor = seen(line);
-    let [first, second, third] = cursor.names;
-    let reason = match (first, second) {
-        (Some(name), None) if cursor.kind == Kind::Word => Reason::Is(name, NO_NAME),
-        (Some(name), None) => Reason::Is(name, "is not defined"),
-        (Some(first), Some(second)) => Reason::OneOf(first, second, third.is_some()),
-        _ => Reason::Said("a name is not defined"),
+/// The fault of a line with a name that is not defined: the first of its names that no line of the source defines, or else
+/// the first of them. Of an empty source nothing is known.
+fn unknown_name<'a>(line: &'a [u8], source: &'a [u8]) -> Fault<'a> {
+    let (cursor, _) = read(line, 10, source);
+    let is_known = !cursor.has_several || (cursor.unknown.is_some() && !source.is_empty());
+    let sentence = if !is_known {
+        ONE_OF_SEVERAL
+    } else if cursor.kind == Kind::Word && !cursor.has_several {
+        NO_NAME
+    } else {
+        "is not defined"
     };
-    Fault::at(0, reason)
+    match cursor.unknown.or(cursor.name) {
+        Some(name) => Fault::at(name.column, Reason::Is(name.text, sentence)),
+        None => Fault::whole(Reason::Said("a name is not defined")),
+    }
 }
 
+const ONE_OF_SEVERAL: &str = "or a name behind it is not defined";
+
 const NO_NAME: &str = "is not defined, and is no operation of this assembler";
+
+/// The fault of a line with a value that does not fit, of octal numbers or, where all of these fit, of decimal ones: the first
+/// value that does not fit, or else the first of which that is not known.
+fn misfit_of(line: &[u8]) -> Fault<'_> {
+    let (octal, read_octal) = read(line, 8, &[]);
+    let (decimal, _) = read(line, 10, &[]);
+    let said = Fault::whole(Reason::Said(limit_of(decimal.kind)));
+    match octal.misfit {
+        Some(fault) if read_octal.is_ok() => fault,
+        _ => decimal.misfit.or(decimal.doubtful).unwrap_or(said),
+    }
+}
 
 fn twice(line: &[u8]) -> Fault<'_> {
     match seen(line).label {

@@ -5,7 +5,9 @@ use crate::cursor::{Cursor, Kind};
 use crate::fault::{Fault, Reason};
 use crate::operands::{
     is_name, read_decimal, read_expression, read_index, read_operand, read_optional, read_text,
+    read_within,
 };
+use crate::values::{ACCUMULATOR, ADDRESS, BIT, HALF, PLACE, RADIX, SIZE, START, WORD};
 use ka_isa::{Named, named};
 use std::str;
 
@@ -123,7 +125,7 @@ pub fn read_statement<'a>(cursor: &mut Cursor<'a>) -> Result<(), Fault<'a>> {
 fn read_body<'a>(cursor: &mut Cursor<'a>) -> Result<(), Fault<'a>> {
     let name = cursor.word();
     if !is_name(name) {
-        return read_value(cursor);
+        return read_words(cursor);
     }
     if let Some(form) = form_of(name) {
         return read_form(form, name, cursor);
@@ -138,7 +140,7 @@ fn read_body<'a>(cursor: &mut Cursor<'a>) -> Result<(), Fault<'a>> {
 /// Reads a value that begins with a name, which must not look like an operation's.
 fn read_named_value<'a>(name: &'a [u8], cursor: &mut Cursor<'a>) -> Result<(), Fault<'a>> {
     let column = cursor.column();
-    read_value(cursor)?;
+    read_words(cursor)?;
     if is_call_like(cursor) {
         let reason = Reason::Is(name, "is not an operation of this assembler");
         return Err(Fault::at(column, reason));
@@ -173,14 +175,8 @@ fn read_instruction<'a>(operation: Named, cursor: &mut Cursor<'a>) -> Result<(),
     cursor.kind = Kind::Instruction;
     cursor.skip();
     let start = *cursor;
-    let first = read_optional(cursor)?;
-    let (accumulator, operand) = if !first || cursor.eat(b',') {
-        (first, read_operand(cursor)?)
-    } else {
-        let _ = read_index(cursor)?;
-        (false, true)
-    };
-    if !first && !operand && !cursor.is_at_end() {
+    let (accumulator, operand) = read_operands(cursor)?;
+    if !accumulator && !operand && !cursor.is_at_end() {
         return Err(cursor.expected("an accumulator, an address or the end of the line"));
     }
     if accumulator && !operation.ac {
@@ -192,19 +188,37 @@ fn read_instruction<'a>(operation: Named, cursor: &mut Cursor<'a>) -> Result<(),
     Ok(())
 }
 
-/// Reads an expression, or two halves.
-fn read_value<'a>(cursor: &mut Cursor<'a>) -> Result<(), Fault<'a>> {
-    cursor.kind = Kind::Word;
-    if !read_optional(cursor)? {
-        return Err(cursor.expected("an operation, a value or a comment"));
+/// Reads the accumulator and the address part of an instruction; true for each that was there.
+fn read_operands<'a>(cursor: &mut Cursor<'a>) -> Result<(bool, bool), Fault<'a>> {
+    match read_optional(cursor)? {
+        None => Ok((false, read_operand(cursor)?)),
+        Some(accumulator) if cursor.eat(b',') => {
+            cursor.note_value(accumulator, &ACCUMULATOR);
+            Ok((true, read_operand(cursor)?))
+        }
+        Some(address) => {
+            cursor.note_value(address, &ADDRESS);
+            let _ = read_index(cursor)?;
+            Ok((false, true))
+        }
     }
+}
+
+/// Reads an expression, or two halves.
+fn read_words<'a>(cursor: &mut Cursor<'a>) -> Result<(), Fault<'a>> {
+    cursor.kind = Kind::Word;
+    let Some(first) = read_optional(cursor)? else {
+        return Err(cursor.expected("an operation, a value or a comment"));
+    };
     cursor.skip();
     if !cursor.rest().starts_with(b",,".as_slice()) {
+        cursor.note_value(first, &WORD);
         return Ok(());
     }
+    cursor.note_value(first, &HALF);
     cursor.kind = Kind::Halves;
     cursor.advance(2);
-    read_expression(cursor)
+    read_expression(cursor, &HALF)
 }
 
 /// Reads a statement with a name of its own, and checks that it may stand where it does.
@@ -224,12 +238,12 @@ fn read_behind<'a>(form: Form, cursor: &mut Cursor<'a>) -> Result<(), Fault<'a>>
     match form {
         Form::Loc | Form::Block => {
             cursor.kind = Kind::Place;
-            read_expression(cursor)
+            read_expression(cursor, &PLACE)
         }
         Form::End => read_start(cursor),
         Form::Radix => {
             cursor.kind = Kind::Radix;
-            read_decimal(cursor)
+            read_decimal(cursor, &RADIX)
         }
         Form::Title => {
             read_title(cursor);
@@ -245,16 +259,16 @@ fn read_behind<'a>(form: Form, cursor: &mut Cursor<'a>) -> Result<(), Fault<'a>>
 /// Reads the start that END may have.
 fn read_start<'a>(cursor: &mut Cursor<'a>) -> Result<(), Fault<'a>> {
     cursor.kind = Kind::End;
-    let _ = read_optional(cursor)?;
+    let _ = read_within(cursor, &START)?;
     Ok(())
 }
 
 /// Reads the halves of XWD and IOWD.
 fn read_halves<'a>(cursor: &mut Cursor<'a>) -> Result<(), Fault<'a>> {
     cursor.kind = Kind::Halves;
-    read_expression(cursor)?;
+    read_expression(cursor, &HALF)?;
     cursor.want(b',', "\",\" and a second value")?;
-    read_expression(cursor)
+    read_expression(cursor, &HALF)
 }
 
 /// Skips all up to the comment.
@@ -270,7 +284,7 @@ fn read_title(cursor: &mut Cursor<'_>) {
 fn read_values<'a>(cursor: &mut Cursor<'a>) -> Result<(), Fault<'a>> {
     cursor.kind = Kind::Word;
     for _ in 0..=cursor.rest().len() {
-        read_expression(cursor)?;
+        read_expression(cursor, &WORD)?;
         if !cursor.eat(b',') {
             return Ok(());
         }
@@ -281,11 +295,11 @@ fn read_values<'a>(cursor: &mut Cursor<'a>) -> Result<(), Fault<'a>> {
 /// Reads what follows POINT.
 fn read_point<'a>(cursor: &mut Cursor<'a>) -> Result<(), Fault<'a>> {
     cursor.kind = Kind::Pointer;
-    read_decimal(cursor)?;
+    read_decimal(cursor, &SIZE)?;
     cursor.want(b',', "\",\" and an address")?;
     let _ = read_operand(cursor)?;
     if cursor.eat(b',') {
-        return read_decimal(cursor);
+        return read_decimal(cursor, &BIT);
     }
     Ok(())
 }
@@ -296,11 +310,36 @@ fn read_text_form<'a>(form: Form, cursor: &mut Cursor<'a>) -> Result<(), Fault<'
         Form::Sixbit => Kind::Sixbit,
         _ => Kind::Word,
     };
-    let column = cursor.column();
+    cursor.skip();
+    let start = *cursor;
     let length = read_text(cursor)?;
+    if matches!(form, Form::Sixbit) {
+        note_characters(cursor, &start, length);
+    }
     if length == 0 && cursor.is_in_literal() && !matches!(form, Form::Asciz) {
-        let reason = Reason::Said("an empty text gives a literal no word");
-        return Err(Fault::at(column, reason));
+        return Err(start.said("an empty text gives a literal no word"));
     }
     Ok(())
 }
+
+/// Whether a character has a code in SIXBIT.
+fn is_sixbit(c: u8) -> bool {
+    let c = c.to_ascii_uppercase();
+    c >= b' ' && c <= b'_'
+}
+
+/// Notes the first character of a text of SIXBIT that has no code in it. The cursor stood at the text's delimiter at its start.
+fn note_characters<'a>(cursor: &mut Cursor<'a>, start: &Cursor<'a>, length: usize) {
+    let body = start.rest().get(1..).unwrap_or(&[]);
+    for (i, c) in body.iter().take(length).enumerate() {
+        if !is_sixbit(*c) {
+            let text = body.get(i..i.saturating_add(1)).unwrap_or(&[]);
+            let column = start.column().saturating_add(i).saturating_add(1);
+            cursor.misfit = Some(Fault::at(column, Reason::Misfit(text, SIXBIT)));
+            return;
+        }
+    }
+}
+
+/// What SIXBIT has.
+const SIXBIT: &str = "SIXBIT has space to \"_\"";

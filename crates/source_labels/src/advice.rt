@@ -21,15 +21,18 @@ fn instead_of(word: &[u8]) -> Option<&'static str> {
     None
 }
 
-/// Whether a text contains another.
-fn has(text: &[u8], wanted: &[u8]) -> bool {
-    (0..text.len()).any(|start| text[start..].starts_with(wanted))
+/// Whether a sign stands in a line where its fault was found, at a column, or ends or begins just before it.
+fn is_sign_at(line: &[u8], column: usize, sign: &[u8]) -> bool {
+    [1usize, 2].iter().any(|back| {
+        let start = column.saturating_sub(*back);
+        line.get(start..).is_some_and(|rest| rest.starts_with(sign))
+    })
 }
 
-/// What to write in place of a sign of MACRO-10 that this subset lacks, if a statement has one.
-fn instead_of_sign(statement: &[u8]) -> Option<&'static str> {
+/// What to write in place of a sign of MACRO-10 that this subset lacks, if it stands where the fault of a line was found.
+fn instead_of_sign(line: &[u8], column: usize) -> Option<&'static str> {
     for (sign, advice) in &SIGNS {
-        if has(statement, sign.as_bytes()) {
+        if is_sign_at(line, column, sign.as_bytes()) {
             return Some(advice);
         }
     }
@@ -42,20 +45,6 @@ fn without_comment(statement: &[u8]) -> &[u8] {
         Some(end) => &statement[..end],
         None => statement,
     }
-}
-
-/// Whether a statement has a literal that does not end on its line, or one within another.
-fn has_wrong_literal(statement: &[u8]) -> bool {
-    let mut depth = 0usize;
-    for c in statement {
-        match *c {
-            b'[' if depth > 0 => return true,
-            b'[' => depth = 1,
-            b']' => depth = 0,
-            _ => {}
-        }
-    }
-    depth > 0
 }
 
 /// Whether a statement is a text, such as ASCIZ, that does not end on its line.
@@ -87,16 +76,18 @@ fn advice_on_form(statement: &[u8]) -> Option<&'static str> {
         return Some(OPEN_TEXT);
     }
     if is_assignment(statement) {
-        return instead_of_sign(b"=");
-    }
-    if has_wrong_literal(statement) {
-        return Some(WRONG_LITERAL);
+        return instead_of_sign(b"=", 1);
     }
     None
 }
 
-/// Advice on a statement that is not in the grammar.
-fn advice_on_grammar(alloc: Global, statement: &[u8]) -> Result<Option<String>, AllocError> {
+/// Advice on a line that is not in the grammar, by its statement and the column of its fault.
+fn advice_on_grammar(
+    alloc: Global,
+    line: &[u8],
+    statement: &[u8],
+    column: usize,
+) -> Result<Option<String>, AllocError> {
     let word = word_of(statement);
     if let Some(advice) = instead_of(word) {
         return Ok(Some(String::from_str(alloc, advice)?));
@@ -108,14 +99,11 @@ fn advice_on_grammar(alloc: Global, statement: &[u8]) -> Result<Option<String>, 
     if let Some(name) = near_operation(alloc, word)? {
         return Ok(Some(format!(in alloc; "did you mean {}?", name.as_str())?));
     }
-    match instead_of_sign(bare) {
+    match instead_of_sign(line, column) {
         Some(advice) => Ok(Some(String::from_str(alloc, advice)?)),
         None => Ok(None),
     }
 }
-
-const WRONG_LITERAL: &str =
-    "a literal is whole on one line and has no literal in it: write the words behind a label of their own";
 
 /// The number of the first line before another where a label stands, if it stands on one.
 fn first_line_of(source: &[u8], label: &[u8], before: usize) -> Option<usize> {
@@ -180,11 +168,17 @@ fn advice_on_name(
     }
 }
 
-/// Advice on a faulty line, if there is any.
-pub fn advice_of(alloc: Global, source: &[u8], fault: Fault) -> Result<Option<String>, AllocError> {
-    let statement = without_blanks(behind_labels(line_at(source, fault.line)));
+/// Advice on a faulty line, whose fault stands at this column, if there is any.
+pub fn advice_of(
+    alloc: Global,
+    source: &[u8],
+    fault: Fault,
+    column: usize,
+) -> Result<Option<String>, AllocError> {
+    let line = line_at(source, fault.line);
+    let statement = without_blanks(behind_labels(line));
     match fault.code {
-        AsmCode::Syntax => advice_on_grammar(alloc, statement),
+        AsmCode::Syntax => advice_on_grammar(alloc, line, statement, column),
         AsmCode::UnknownName => advice_on_name(alloc, source, statement),
         AsmCode::DefinedTwice => advice_on_label(alloc, source, fault),
         _ => Ok(None),

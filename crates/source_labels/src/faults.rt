@@ -6,11 +6,12 @@ use crate::lines::{behind_labels, line_at, start_of_line};
 use crate::sources::Source;
 use mac_asm::{AsmCode, AsmError, assemble};
 use mac_text::{Statement, parse};
+use shown_bytes::{MOST_SHOWN, push_shown, shown_width};
 use source_faults::locate;
 use std::alloc::{AllocError, Global};
 
-/// The most faults that are reported.
-const MOST_REPORTED: usize = 20;
+/// The most faults that are reported where no other number is given.
+pub const MOST_REPORTED: usize = 20;
 
 /// The most faults that are counted.
 const MOST_COUNTED: usize = 1000;
@@ -80,52 +81,92 @@ fn mend(alloc: Global, text: &mut Vec<u8>, fault: Fault) -> Result<bool, AllocEr
     Ok(before.as_slice() != line_at(text.as_slice(), fault.line))
 }
 
-/// Adds blanks up to a column of a line, with tabs where the line has them.
-fn push_indent(text: &mut Vec<u8>, line: &[u8], column: usize) -> Result<(), AllocError> {
-    for byte in line.iter().take(column.saturating_sub(1)) {
-        text.push(if *byte == b'\t' { b'\t' } else { b' ' })?;
+/// How many bytes of a long line are shown before the column of its fault.
+const SHOWN_BEFORE: usize = 80;
+
+/// The position in a line from which on it is shown, so that the column of its fault is seen: 0 where that is near enough.
+fn first_shown(line: &[u8], column: usize) -> usize {
+    if column <= MOST_SHOWN {
+        0
+    } else {
+        column.saturating_sub(SHOWN_BEFORE).min(line.len())
+    }
+}
+
+/// Adds blanks below some bytes as they are shown, with tabs where these have them.
+fn push_indent(text: &mut String, bytes: &[u8]) -> Result<(), AllocError> {
+    for byte in bytes {
+        if *byte == b'\t' {
+            text.push('\t')?;
+            continue;
+        }
+        for _ in 0..shown_width(*byte) {
+            text.push(' ')?;
+        }
     }
     Ok(())
+}
+
+/// Adds a line of a source as it is shown, and a caret below a column of it.
+fn push_line(text: &mut String, line: &[u8], column: usize) -> Result<(), AllocError> {
+    let first = first_shown(line, column);
+    let head = if first > 0 { "    .." } else { "    " };
+    let below = if first > 0 { "\n      " } else { "\n    " };
+    let shown = line.get(first..).unwrap_or(&[]);
+    let before = shown
+        .get(..column.saturating_sub(1).saturating_sub(first))
+        .unwrap_or(shown);
+    text.push_str(head)?;
+    push_shown(text, shown)?;
+    text.push_str(below)?;
+    push_indent(text, before)?;
+    text.push_str("^\n")
 }
 
 /// Adds the lines on a fault: `FILE:LINE:COLUMN: error: what is wrong (code n)`; the source's line with a caret
 /// below, if it is not empty; and advice, if there is any.
 fn push_fault(
     alloc: Global,
-    text: &mut Vec<u8>,
+    text: &mut String,
     source: &Source<'_>,
     fault: Fault,
 ) -> Result<(), AllocError> {
     let whole = source.text.as_slice();
     let line = line_at(whole, fault.line);
     let code = fault.code.number();
-    let located = locate(alloc, code, line)?;
+    let located = locate(alloc, code, line, whole)?;
     let (file, number, column) = (source.file, fault.line.max(1), located.column);
     let reason = located.text.as_str();
-    let head = format!(in alloc; "{file}:{number}:{column}: error: {reason} (code {code})\n")?;
-    text.extend_from_slice(head.as_str().as_bytes())?;
+    write!(
+        text,
+        "{file}:{number}:{column}: error: {reason} (code {code})\n"
+    )?;
     if !line.is_empty() {
-        text.extend_from_slice(b"    ")?;
-        text.extend_from_slice(line)?;
-        text.extend_from_slice(b"\n    ")?;
-        push_indent(text, line, column)?;
-        text.extend_from_slice(b"^\n")?;
+        push_line(text, line, column)?;
     }
-    if let Some(advice) = advice_of(alloc, whole, fault)? {
-        let advice = format!(in alloc; "    {}\n", advice.as_str())?;
-        text.extend_from_slice(advice.as_str().as_bytes())?;
+    match located.hint {
+        Some(hint) => write!(text, "    {hint}\n"),
+        None => push_advice(alloc, text, whole, fault, column),
     }
-    Ok(())
+}
+
+/// Adds advice on a fault at a column, if there is any.
+fn push_advice(
+    alloc: Global,
+    text: &mut String,
+    source: &[u8],
+    fault: Fault,
+    column: usize,
+) -> Result<(), AllocError> {
+    match advice_of(alloc, source, fault, column)? {
+        Some(advice) => write!(text, "    {}\n", advice.as_str()),
+        None => Ok(()),
+    }
 }
 
 /// Adds how many faults there are beyond those that are reported.
-fn push_more(
-    alloc: Global,
-    text: &mut Vec<u8>,
-    file: &str,
-    count: usize,
-) -> Result<(), AllocError> {
-    let more = count.saturating_sub(MOST_REPORTED);
+fn push_more(text: &mut String, file: &str, count: usize, most: usize) -> Result<(), AllocError> {
+    let more = count.saturating_sub(most);
     if more == 0 {
         return Ok(());
     }
@@ -134,26 +175,27 @@ fn push_more(
     } else {
         "at least "
     };
-    let line = format!(in alloc; "{file}: {least}{more} more\n")?;
-    text.extend_from_slice(line.as_str().as_bytes())?;
+    write!(text, "{file}: {least}{more} more\n")
+}
+
+/// Adds a fault to others, which stand by line, behind those of its line.
+fn insert_by_line(faults: &mut Vec<Fault>, fault: Fault) -> Result<(), AllocError> {
+    let position = faults
+        .as_slice()
+        .iter()
+        .position(|other| other.line > fault.line)
+        .unwrap_or(faults.len());
+    faults.insert(position.min(faults.len()), fault)?;
     Ok(())
 }
 
-/// What is wrong with a source, in whole lines. `first` is its first fault.
-pub fn faults_text(
-    alloc: Global,
-    source: &Source<'_>,
-    first: Fault,
-) -> Result<Vec<u8>, AllocError> {
-    let mut report = Vec::new(alloc);
-    let mut rest = Vec::from_slice(alloc, source.text.as_slice())?;
+/// The faults of a source, by line, as far as they are counted. `first` is the one that the assembler reports.
+fn faults_of(alloc: Global, source: &[u8], first: Fault) -> Result<Vec<Fault>, AllocError> {
+    let mut faults = Vec::new(alloc);
+    let mut rest = Vec::from_slice(alloc, source)?;
     let mut fault = first;
-    let mut count = 0usize;
     for _ in 0..MOST_COUNTED {
-        if count < MOST_REPORTED {
-            push_fault(alloc, &mut report, source, fault)?;
-        }
-        count = count.saturating_add(1);
+        insert_by_line(&mut faults, fault)?;
         if !mend(alloc, &mut rest, fault)? {
             break;
         }
@@ -162,6 +204,22 @@ pub fn faults_text(
             None => break,
         }
     }
-    push_more(alloc, &mut report, source.file, count)?;
+    Ok(faults)
+}
+
+/// What is wrong with a source, in whole lines, by line: `most` of its faults, and how many more there are. `first` is the
+/// one that the assembler reports.
+pub fn faults_text(
+    alloc: Global,
+    source: &Source<'_>,
+    first: Fault,
+    most: usize,
+) -> Result<String, AllocError> {
+    let mut report = String::new(alloc);
+    let faults = faults_of(alloc, source.text.as_slice(), first)?;
+    for fault in faults.as_slice().iter().take(most) {
+        push_fault(alloc, &mut report, source, *fault)?;
+    }
+    push_more(&mut report, source.file, faults.len(), most)?;
     Ok(report)
 }

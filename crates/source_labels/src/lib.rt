@@ -13,6 +13,7 @@ mod sources;
 mod spots;
 mod warnings;
 
+pub use faults::MOST_REPORTED;
 pub use labels::{Label, nearest};
 pub use places::{Literals, Places};
 pub use sources::{Assembled, Program, Source, assemble_source};

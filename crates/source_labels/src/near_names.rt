@@ -39,6 +39,21 @@ fn has_one_more(longer: &[u8], shorter: &[u8]) -> bool {
     (0..longer.len()).any(|i| longer[..i] == shorter[..i] && longer[i + 1..] == shorter[i..])
 }
 
+/// The fewest characters of the name of an operation of which one may be another: of shorter names nearly each would be near
+/// some operation.
+const LONG_NAME: usize = 5;
+
+/// Whether a word may be the name of an operation with one slip.
+fn is_near_operation(word: &[u8], operation: &[u8]) -> bool {
+    let is_other = word.len() == operation.len() && word.len() < LONG_NAME;
+    are_near(word, operation) && (!is_other || has_same_characters(word, operation))
+}
+
+/// Whether two names of equal length have the same characters, in any order.
+fn has_same_characters(one: &[u8], other: &[u8]) -> bool {
+    one.iter().all(|c| other.contains(c)) && other.iter().all(|c| one.contains(c))
+}
+
 /// Whether two names of at least three characters differ by one slip.
 fn are_near(one: &[u8], other: &[u8]) -> bool {
     if one.len() < 3 || other.len() < 3 {
@@ -62,13 +77,13 @@ pub fn near_operation(alloc: Global, word: &[u8]) -> Result<Option<String>, Allo
         return Ok(Some(pointed));
     }
     for other in &OTHERS {
-        if are_near(wanted.as_slice(), other.as_bytes()) {
+        if is_near_operation(wanted.as_slice(), other.as_bytes()) {
             return Ok(Some(String::from_str(alloc, other)?));
         }
     }
     for operation in 0..OPERATIONS {
         if let Some(name) = mnemonic(operation) {
-            if are_near(wanted.as_slice(), name.as_bytes()) {
+            if is_near_operation(wanted.as_slice(), name.as_bytes()) {
                 return Ok(Some(String::from_str(alloc, name)?));
             }
         }

@@ -1,7 +1,7 @@
 //! What MACRO-10 has and this subset lacks, each with what to write instead.
 
 /// Words at the head of a statement.
-pub static INSTEAD: [(&[&str], &str); 17] = [
+pub static INSTEAD: [(&[&str], &str); 18] = [
     (&["OCT"], "OCT is not here: write EXP, as in EXP 17,20"),
     (
         &["DEC"],
@@ -25,6 +25,10 @@ pub static INSTEAD: [(&[&str], &str); 17] = [
             "IFNB", "IFIDN", "IFDIF",
         ],
         "conditions are not here: write the lines that are wanted",
+    ),
+    (
+        &["MOVX"],
+        "MOVX is not here: write MOVEI, MOVSI, or MOVE with a literal",
     ),
     (&["PJRST"], "PJRST is not here: write JRST"),
     (&["CLEAR"], "CLEAR is not here: write SETZ"),

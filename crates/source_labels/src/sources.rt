@@ -1,4 +1,6 @@
 //! Sources, and what they are assembled to.
+ghost use Rattle.mac_asm.specs.Outcome.{outcome_of};
+ghost use Rattle.source_labels.specs.Programs.{AssemblesTo};
 
 use crate::faults::{Fault, faults_text};
 use crate::places::{Places, places_of};
@@ -37,29 +39,41 @@ pub enum Assembled<'a> {
     Refused(Vec<u8>),
 }
 
-/// The image of a source, and its labels and literals.
-fn assemble_with_places(alloc: Global, text: &[u8]) -> Result<(Image, Places), AsmError> {
-    let image = assemble(alloc, text)?;
-    let lines = parse(alloc, text)?;
-    let layout = lay_out(alloc, lines.as_slice())?;
-    let places = places_of(alloc, lines.as_slice(), &layout, &image)?;
-    Ok((image, places))
+/// The labels and literals of a source of which this is the image. It is in the grammar and laid out, as it was
+/// assembled, so that only memory can be missing.
+fn places_in(alloc: Global, text: &[u8], image: &Image) -> Result<Places, AllocError> {
+    let Ok(lines) = parse(alloc, text) else {
+        return Err(AllocError);
+    };
+    let Ok(layout) = lay_out(alloc, lines.as_slice()) else {
+        return Err(AllocError);
+    };
+    places_of(alloc, lines.as_slice(), &layout, image)
 }
 
-/// Assembles a source. One that is refused is no error: the text says what is wrong with it.
+/// Assembles a source. One that is refused is no error: the text says what is wrong with it, and has `most` of its faults at
+/// most.
 pub fn assemble_source<'a>(
     alloc: Global,
     source: &Source<'a>,
-) -> Result<Assembled<'a>, AllocError> {
-    match assemble_with_places(alloc, source.text.as_slice()) {
-        Ok((image, places)) => Ok(Assembled::Program(Program {
-            file: source.file,
-            image,
-            places,
-        })),
+    most: usize,
+) -> Result<Assembled<'a>, AllocError>
+    ensures { AssemblesTo result (outcome_of source.now.text.items) }
+{
+    let text = source.text.as_slice();
+    match assemble(alloc, text) {
+        Ok(image) => {
+            let places = places_in(alloc, text, &image)?;
+            Ok(Assembled::Program(Program {
+                file: source.file,
+                image,
+                places,
+            }))
+        }
         Err(AsmError::Line { line, code }) => {
             let first = Fault { line, code };
-            Ok(Assembled::Refused(faults_text(alloc, source, first)?))
+            let text = faults_text(alloc, source, first, most)?;
+            Ok(Assembled::Refused(text.into_bytes()))
         }
         Err(AsmError::Memory) => Err(AllocError),
     }

@@ -4,10 +4,13 @@ use crate::options::Options;
 use crate::texts;
 use clap::{Arg, ArgMatches, Command};
 use machine::{Config, MOST_QUANTUM};
+use program_files::{make_from, packing_in};
 use program_shell::{
     Refusal, Wrong, files_in, make_command, make_flag, make_option, matches_of, number_of, refused,
     size_in, with_files,
 };
+use shown_bytes::shown_text;
+use source_labels::MOST_REPORTED;
 use std::alloc::{AllocError, Global};
 
 /// The most steps that `--steps` takes.
@@ -15,6 +18,9 @@ const MOST_STEPS: u64 = 1_000_000_000_000;
 
 /// The most steps that `--history` takes.
 const MOST_HISTORY: u64 = 10_000;
+
+/// The most faults of a source that `--max-errors` takes.
+const MOST_FAULTS: u64 = 1000;
 
 /// How the name of a picture ends, so that no source is written over by one that is named in its place.
 const PICTURE_END: &str = ".svg";
@@ -43,12 +49,15 @@ fn read_by<'a>(
 /// The command line of the program.
 fn ten_command<'a>(alloc: Global) -> Result<Command<'a>, AllocError> {
     let top = make_command(alloc, "ten", texts::PROGRAM, texts::PROGRAM_END)?;
-    let with_steps = top.arg(make_option(alloc, "steps", texts::STEPS))?;
+    let with_from = top.arg(make_from(alloc))?;
+    let with_steps = with_from.arg(make_option(alloc, "steps", texts::STEPS))?;
     let with_trace = with_steps.arg(make_flag(alloc, "trace", texts::TRACE))?;
     let with_locks = with_trace.arg(make_flag(alloc, "locks", texts::LOCKS))?;
     let with_history = with_locks.arg(make_option(alloc, "history", texts::HISTORY))?;
     let with_waits = with_history.arg(make_option(alloc, "waits", texts::WAITS))?;
-    let with_picture = with_waits.arg(
+    let with_echo = with_waits.arg(make_flag(alloc, "echo", texts::ECHO))?;
+    let with_faults = with_echo.arg(make_option(alloc, "max-errors", texts::MAX_ERRORS))?;
+    let with_picture = with_faults.arg(
         Arg::new(alloc, "picture")
             .long("picture")
             .value_name("FILE.svg")
@@ -63,16 +72,31 @@ fn options_in<'a>(alloc: Global, matches: &ArgMatches<'a>) -> Result<Options<'a>
     let steps = number_of(matches, "steps", MOST_STEPS)?.unwrap_or(u64::MAX);
     let history = number_of(matches, "history", MOST_HISTORY)?.unwrap_or(0);
     let waits = number_of(matches, "waits", MOST_STEPS)?;
+    let faults = number_of(matches, "max-errors", MOST_FAULTS)?;
+    let files = files_in(alloc, matches)?;
     Ok(Options {
         config: Config::new(size.blocks, size.quantum).unwrap(),
+        from: packing_in(matches)?,
         steps,
         trace: matches.get_flag("trace"),
         locks: matches.get_flag("locks"),
         history: history as usize,
         waits,
         picture: picture_in(matches)?,
-        files: files_in(alloc, matches)?,
+        echo: matches.get_flag("echo"),
+        faults: faults.unwrap_or(MOST_REPORTED as u64) as usize,
+        names: shown_names(alloc, files.as_slice())?,
+        files,
     })
+}
+
+/// Names of files, as lines for a person show them.
+fn shown_names(alloc: Global, files: &[&str]) -> Result<Vec<String>, AllocError> {
+    let mut names = Vec::new(alloc);
+    for file in files {
+        names.push(shown_text(alloc, file.as_bytes())?)?;
+    }
+    Ok(names)
 }
 
 /// The file of the picture, if it is given.

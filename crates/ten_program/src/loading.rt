@@ -1,25 +1,29 @@
-//! Assembles sources, and logs a job in for each.
+//! Assembles sources and loads core images, and logs a job in for each.
 
 use crate::jobs::RunningJob;
 use crate::terminal::Terminal;
 use concrete_machine::Machine;
+use image_files::Packing;
 use monitor::{Answer, Event, RefusedEvent};
+use program_files::read_program;
 use program_shell::PendingText;
 use run_notes::TracedJob;
-use source_labels::{Assembled, Program, Source, assemble_source, warnings_of};
+use source_labels::{Assembled, Program, Source, warnings_of};
 use word36::{Address, Image};
 
-/// Assembles sources and gives their programs. Reports what is wrong with each source that is refused; then there are
-/// none.
+/// Gives the programs of files: sources, which it assembles, and core images, whose words are packed so. Reports what is
+/// wrong with each file that is refused, `most` faults of each source; then there are none.
 pub fn assemble_all<'a>(
     sources: &[Source<'a>],
+    from: Packing,
+    most: usize,
     errors: &mut PendingText,
 ) -> Option<Vec<Program<'a>>> {
     let alloc = errors.alloc;
     let mut programs = Vec::new(alloc);
     let mut are_right = true;
     for source in sources {
-        match assemble_source(alloc, source) {
+        match read_program(alloc, source, from, most) {
             Ok(Assembled::Program(program)) => {
                 let (file, image, places) = (program.file, &program.image, &program.places);
                 errors.say_made(warnings_of(alloc, file, image, places));

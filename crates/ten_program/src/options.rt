@@ -1,5 +1,6 @@
 //! What the arguments ask for.
 
+use image_files::Packing;
 use machine::Config;
 
 /// What the arguments of the command line ask for.
@@ -7,6 +8,8 @@ use machine::Config;
 pub struct Options<'a> {
     /// The blocks of core that the jobs share, and the quantum.
     pub config: Config,
+    /// How the words of core images are packed.
+    pub from: Packing,
     /// The run ends after so many steps.
     pub steps: u64,
     /// Whether each step is reported.
@@ -19,6 +22,12 @@ pub struct Options<'a> {
     pub waits: Option<u64>,
     /// The file to which a picture of the run is written, if that is asked for.
     pub picture: Option<&'a str>,
-    /// The names of the sources' files, 1 to 63.
+    /// Whether what is typed is written to the output too.
+    pub echo: bool,
+    /// So many faults of a source are reported.
+    pub faults: usize,
+    /// The names of the programs' files, 1 to 63: sources, and core images.
     pub files: Vec<&'a str>,
+    /// These names, as lines for a person show them.
+    pub names: Vec<String>,
 }

@@ -29,19 +29,25 @@ fn report_error(head: &str, file: &str, error: io::Error, errors: &mut PendingTe
 /// Reads all sources; false at the first that cannot be read, which is reported.
 fn read_sources<'a, H: Host>(
     host: &H,
-    files: &[&'a str],
+    options: &'a Options<'_>,
     sources: &mut Vec<Source<'a>>,
     errors: &mut PendingText,
 ) -> bool {
-    for file in files {
+    for (file, name) in options
+        .files
+        .as_slice()
+        .iter()
+        .zip(options.names.as_slice())
+    {
+        let name = name.as_str();
         match host.read_file(file) {
             Ok(text) => {
-                if sources.push(Source { file, text }).is_err() {
+                if sources.push(Source { file: name, text }).is_err() {
                     errors.fail();
                 }
             }
             Err(error) => {
-                report_error("", file, error, errors);
+                report_error("", name, error, errors);
                 return false;
             }
         }
@@ -113,8 +119,7 @@ fn serve<H: Host>(alloc: Global, options: &Options<'_>, host: &mut H) -> Result<
     };
     let mut session = Session::new(alloc, options);
     let mut sources = Vec::new(alloc);
-    let files = options.files.as_slice();
-    let are_read = read_sources(host, files, &mut sources, &mut session.errors);
+    let are_read = read_sources(host, options, &mut sources, &mut session.errors);
     let reported = write_pending(host, Stream::Errors, &mut session.errors);
     let served = match reported {
         Err(failure) => Err(failure),

@@ -6,11 +6,12 @@ use crate::session::Session;
 use concrete_machine::Machine;
 use program_shell::Failure;
 
-/// Types lines of the input as long as jobs wait for characters and lines come.
+/// Types lines of the input as long as jobs wait for characters and lines come. With `echo` each is added to the output.
 fn type_awaited<H: Host>(
     host: &mut H,
     session: &mut Session,
     machine: &mut Machine,
+    echo: bool,
 ) -> Result<(), Failure> {
     let (typing, jobs) = (&mut session.typing, session.jobs.as_slice());
     typing.type_on(machine);
@@ -26,20 +27,23 @@ fn type_awaited<H: Host>(
         if typing.begin(machine, jobs).is_err() {
             return Err(Failure::Memory);
         }
+        if echo {
+            session.output.add(typing.text.as_slice());
+        }
     }
     Ok(())
 }
 
-/// Makes at most so many steps, until no job goes on. True where it made them all.
+/// Makes at most as many steps as the options say, until no job goes on. True where it made them all.
 fn run<H: Host>(
     host: &mut H,
     session: &mut Session,
     machine: &mut Machine,
-    most: u64,
+    options: &Options<'_>,
 ) -> Result<bool, Failure> {
     let mut is_cut = true;
-    for _ in 0..most {
-        type_awaited(host, session, machine)?;
+    for _ in 0..options.steps {
+        type_awaited(host, session, machine, options.echo)?;
         let turn = session.step(machine);
         write_pending(host, Stream::Output, &mut session.output)?;
         let goes_on = session.end_round(machine, turn);
@@ -60,9 +64,9 @@ pub fn run_jobs<H: Host>(
     machine: &mut Machine,
     options: &Options<'_>,
 ) -> Result<u8, Failure> {
-    let ran = run(host, session, machine, options.steps);
+    let ran = run(host, session, machine, options);
     let is_cut = matches!(ran, Ok(true));
-    let status = session.report_ends(machine, options.files.as_slice(), is_cut);
+    let status = session.report_ends(machine, options.names.as_slice(), is_cut);
     write_pending(host, Stream::Errors, &mut session.errors)?;
     ran.and(Ok(status))
 }

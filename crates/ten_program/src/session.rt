@@ -87,14 +87,15 @@ impl Session {
     /// Ends the run, and frees its memory and its machine's.
     pub fn end(self, _machine: Machine) {}
 
-    /// Assembles sources, and logs a job in for each; false where one is refused, which is reported.
+    /// Assembles sources and loads core images, and logs a job in for each; false where one is refused, which is reported.
     pub fn begin(
         &mut self,
         machine: &mut Machine,
         sources: &[Source<'_>],
         options: &Options<'_>,
     ) -> bool {
-        let Some(programs) = assemble_all(sources, &mut self.errors) else {
+        let Some(programs) = assemble_all(sources, options.from, options.faults, &mut self.errors)
+        else {
             return false;
         };
         if !log_in_all(machine, programs, &mut self.jobs, &mut self.errors) {
@@ -230,20 +231,20 @@ impl Session {
     }
 
     /// Reports how each job stands, and gives the exit status. `is_cut` where the run made as many steps as it
-    /// was to make; `files` are those of the jobs' sources.
-    pub fn report_ends(&mut self, machine: &Machine, files: &[&str], is_cut: bool) -> u8 {
+    /// was to make; `names` are those of the files of the jobs' sources.
+    pub fn report_ends(&mut self, machine: &Machine, names: &[String], is_cut: bool) -> u8 {
         if !self.output.is_line_whole() {
             self.errors.end_line();
         }
         self.notes.report_table(self.ticks, &mut self.errors);
         let mut standings = Vec::new(self.errors.alloc);
-        for (job, file) in self.jobs.as_slice().iter().zip(files) {
+        for (job, name) in self.jobs.as_slice().iter().zip(names) {
             let standing = standing_of(machine, job.traced.number);
             if !has_ended_well(standing) {
                 self.notes
                     .report_history(job.traced.number, &mut self.errors);
             }
-            job.report_end(machine, file, standing, &mut self.errors);
+            job.report_end(machine, name.as_str(), standing, &mut self.errors);
             if standings.push(standing).is_err() {
                 self.errors.fail();
             }

@@ -33,6 +33,13 @@ pub const HISTORY: &str =
 pub const WAITS: &str =
     "tells waits for locks of more than N ticks, how long each grant took, and a table by lock";
 
+/// `--echo`.
+pub const ECHO: &str = "writes what is typed to standard output too, before what the jobs answer";
+
+/// `--max-errors`.
+pub const MAX_ERRORS: &str =
+    "tells so many errors of a source, 1 to 1000, and counts the others [default: 20]";
+
 /// `--picture`.
 pub const PICTURE: &str =
     "writes a picture of the run: who has which lock at which tick, and who waits for whom";

@@ -1,0 +1,9 @@
+use Rattle.std.proofs.Common.{arith, sym}
+use Rattle.std.proofs.lemmas.List.{length-take-le, take_all}
+use Rattle.shown_bytes.proofs.pushing.front_of.Goals as goal
+
+pub slice_bounds-result-end : goal.slice_bounds-result-end
+slice_bounds-result-end c = sym (length-take-le 256 c.args.bytes.now (omega arith))
+
+pub returns-else-bytes-gt-MOST_SHOWN : goal.returns-else-bytes-gt-MOST_SHOWN
+returns-else-bytes-gt-MOST_SHOWN c = sym (take_all 256 c.args.bytes.now (omega arith))
