@@ -78,6 +78,21 @@ impl fmt::Display for IdText {
     }
 }
 
+/// A code in decimal and, where that differs, in octal, as its accumulator is mostly shown: `code 17 (21 octal)`.
+#[derive(Clone, Copy)]
+struct CodeText(u32);
+
+impl fmt::Display for CodeText {
+    fn fmt<W: fmt::Write>(&self, f: &mut fmt::Formatter<W>) -> fmt::Result {
+        let code = self.0;
+        if code < 8 {
+            write!(f, "{code}")
+        } else {
+            write!(f, "{code} ({code:o} octal)")
+        }
+    }
+}
+
 /// A lock call that a job is about to make, with its block as it stands before the call, which may write over it.
 #[derive(Drop)]
 pub struct PendingCall {
@@ -298,7 +313,7 @@ fn push_answer(
         CallAnswer::NotifiedLater => "queued, it will be told (code 1)",
         CallAnswer::Refused(code) => {
             let meaning = code_meaning(code);
-            return write!(text, "refused, code {code}: {meaning}");
+            return write!(text, "refused, code {}: {meaning}", CodeText(code));
         }
         CallAnswer::Done if call.service == LockService::Enqc && call.asked.left() == 1 => {
             let (quota, requests) = (left.left(), left.right());

@@ -26,9 +26,11 @@ pub fn limit_line(
     let head = "time limit ended";
     match waiting_id(before, number) {
         Some(id) => {
-            format!(in alloc; "tick {tick}, job {number}: {head}, request {id}, code 17\n")
+            format!(in alloc;
+                "tick {tick}, job {number}: {head}, request {id}, code 17 (21 octal)\n"
+            )
         }
-        None => format!(in alloc; "tick {tick}, job {number}: {head}, code 17\n"),
+        None => format!(in alloc; "tick {tick}, job {number}: {head}, code 17 (21 octal)\n"),
     }
 }
 

@@ -5,6 +5,7 @@
 mod block_words;
 mod calls;
 mod circle_lines;
+mod followed;
 mod grants;
 mod instructions;
 mod job_stops;
@@ -18,10 +19,11 @@ mod wait_lines;
 
 pub use calls::{PendingCall, call_line};
 pub use circle_lines::{circle_line, circle_of, has_circle};
+pub use followed::effective_address;
 pub use grants::{grant_lines, limit_line};
 pub use instructions::{InstructionText, Reference};
 pub use job_stops::stop_text;
-pub use snapshot::{Snapshot, effective_address, snapshot_of};
+pub use snapshot::{Snapshot, snapshot_of};
 pub use steps::{step_line, time_limit_line};
 pub use traced_job::TracedJob;
 pub use wait_clocks::WaitClocks;

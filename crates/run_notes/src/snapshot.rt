@@ -1,11 +1,18 @@
 //! A job as it stands before its turn.
 
-use concrete_machine::Machine;
-use ka_isa::{Family, classify, decode};
-use word36::{Address, Word};
+ghost use Rattle.std.specs.Prelude.{◌≡◌, Some, IfSome, length};
+ghost use Rattle.core_store.specs.Cores.{core_of};
+ghost use Rattle.job_sched.specs.Tables.{job_at};
+ghost use Rattle.job_sched.specs.declared.job.Job.{Job};
+ghost use Rattle.ka_cpu.specs.declared.limits.TheConstants.{MOST_EXECUTES};
+ghost use Rattle.ka_cpu.specs.Addresses.{target_of};
+ghost use Rattle.ka_cpu.specs.Exec.{word_behind};
+ghost use Rattle.machine.specs.Views.{word_in};
+ghost use Rattle.run_notes.specs.Followed.{address_found, word_found};
 
-/// How many indirect words, or XCTs, are followed at most.
-const MOST_FOLLOWED: u32 = 64;
+use crate::followed::{effective_address, executed_word};
+use concrete_machine::Machine;
+use word36::{Address, Word};
 
 /// How many registers there are.
 pub const REGISTERS: usize = 16;
@@ -17,7 +24,7 @@ pub struct Snapshot {
     pub place: Address,
     /// The instruction; 0 where the address is not legal.
     pub instruction: Word,
-    /// The instruction that is executed in the end: another one where the first is XCT.
+    /// The instruction that is executed in the end: another one where the first is XCT, unless the processor refuses it.
     pub executed: Word,
     /// The effective address of the executed instruction, where indirect words lead to one.
     pub address: Option<u32>,
@@ -64,45 +71,14 @@ impl Snapshot {
     }
 }
 
-/// The effective address of a word of a job, where indirect words lead to one.
-pub fn effective_address(machine: &Machine, number: u8, word: Word) -> Option<u32> {
-    let mut word = word;
-    for _ in 0..MOST_FOLLOWED {
-        let fields = decode(word);
-        let index = match fields.x {
-            0 => 0,
-            x => machine.peek(number, u32::from(x))?.right(),
-        };
-        let address = (fields.y + index) & 0o777_777;
-        if !fields.i {
-            return Some(address);
-        }
-        word = machine.peek(number, address)?;
-    }
-    None
-}
-
 /// The word of a job at an address, if there is an address and it is legal.
-fn word_at(machine: &Machine, number: u8, address: Option<u32>) -> Option<Word> {
+fn word_at(machine: &Machine, number: u8, address: Option<u32>) -> Option<Word>
+    ensures { IfSome address (λ a. result ≡ word_in machine.now.world number a) }
+{
     match address {
         Some(address) => machine.peek(number, address),
         None => None,
     }
-}
-
-/// The instruction that an instruction of a job executes in the end: itself, unless it is XCT.
-fn executed(machine: &Machine, number: u8, instruction: Word) -> Word {
-    let mut word = instruction;
-    for _ in 0..MOST_FOLLOWED {
-        if classify(decode(word).op) != Family::Xct {
-            return word;
-        }
-        match word_at(machine, number, effective_address(machine, number, word)) {
-            Some(next) => word = next,
-            None => return word,
-        }
-    }
-    word
 }
 
 /// The registers of a job.
@@ -117,9 +93,17 @@ fn registers_of(machine: &Machine, number: u8) -> [Word; REGISTERS] {
 }
 
 /// What a job executes at an address, and what it finds there.
-pub fn snapshot_of(machine: &Machine, number: u8, place: Address) -> Snapshot {
+pub fn snapshot_of(machine: &Machine, number: u8, place: Address) -> Snapshot
+    ensures instruction { IfSome (word_in machine.now.world number place) (λ w. result.instruction ≡ w) }
+    ensures executed { (j : Job) → job_at machine.now.world.table.jobs number ≡ Some j → length j.regs.ac ≡ 16
+        → IfSome (word_found (word_behind MOST_EXECUTES j.regs.ac (core_of machine.now.world.cores number) result.instruction))
+        (λ w. result.executed ≡ w) }
+    ensures address { (j : Job) → job_at machine.now.world.table.jobs number ≡ Some j → length j.regs.ac ≡ 16
+        → result.address ≡ address_found (target_of j.regs.ac (core_of machine.now.world.cores number) result.executed) }
+    ensures operand { IfSome result.address (λ a. result.operand ≡ word_in machine.now.world number a) }
+{
     let instruction = machine.peek(number, place.number()).unwrap_or(Word::new(0));
-    let executed = executed(machine, number, instruction);
+    let executed = executed_word(machine, number, instruction).unwrap_or(instruction);
     let address = effective_address(machine, number, executed);
     Snapshot {
         place,

@@ -1,7 +1,8 @@
 //! What a step changed.
 
+use crate::followed::effective_address;
 use crate::instructions::Reference;
-use crate::snapshot::{Snapshot, effective_address};
+use crate::snapshot::Snapshot;
 use crate::traced_job::TracedJob;
 use concrete_machine::Machine;
 use ka_isa::{Family, classify, decode};

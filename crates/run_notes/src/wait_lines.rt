@@ -6,13 +6,26 @@ use lock_queue::Request;
 use std::alloc::{AllocError, Global};
 use wait_graph::{LockWait, lock_wait};
 
-/// Adds what a job waits for: `lock X, held by job 2`, or `lock X, behind job 3` where nobody holds it.
+/// What stands before a job of a list, by its position and how many there are: ` job 2`, ` jobs 2, 3 and 5`.
+fn before_job(position: usize, count: usize) -> &'static str {
+    if position == 0 {
+        if count == 1 { " job " } else { " jobs " }
+    } else if position.saturating_add(1) == count {
+        " and "
+    } else {
+        ", "
+    }
+}
+
+/// Adds what a job waits for: `lock X, held by job 2`, or `lock X, behind jobs 3 and 4` where nobody holds it.
 fn push_wait(text: &mut String, wait: &LockWait<'_>) -> Result<(), AllocError> {
     let lock = LockText { want: wait.want };
     let relation = if wait.is_held { "held by" } else { "behind" };
-    write!(text, "lock {lock}, {relation} job")?;
-    for job in &wait.jobs {
-        write!(text, " {job}")?;
+    write!(text, "lock {lock}, {relation}")?;
+    let count = wait.jobs.len();
+    for (position, job) in wait.jobs.iter().enumerate() {
+        let before = before_job(position, count);
+        write!(text, "{before}{job}")?;
     }
     Ok(())
 }
