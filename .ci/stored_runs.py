@@ -4,7 +4,7 @@ its status with what stands there; tests/README.md has the form of these files.
 
 The first word of a run names its program. It is made twice: by the build of LLVM, with its input in a file, and by that
 of Rattle's own compiler, with its input over a socket, in pieces of 1 to 7 bytes; or where a word NAME=PATH of this
-command says, by that program both times. A run is made in a folder with the sources and scripts of examples/ and of the
+command says, by that program both times. A run is made in a folder with the sources, core images and scripts of examples/ and of the
 folder of its file, and takes at most two minutes. The word --write writes anew what the first gives, where it is not
 what is stored."""
 import difflib
@@ -141,7 +141,7 @@ def furnish(there, tests):
     there.mkdir()
     (there / "tests").symlink_to(TOP / "tests")
     for file in (*TOP.glob("examples/*"), *tests.iterdir()):
-        if file.suffix in (".mac", ".queue", ".run"):
+        if file.suffix.lower() in (".mac", ".sav", ".queue", ".run"):
             if (there / file.name).is_symlink():
                 raise Wrong(f"{file.relative_to(TOP)}: another file has its name")
             (there / file.name).symlink_to(file)

@@ -6,10 +6,10 @@
 - A script or a source of examples/ or tests/, NAME.queue, NAME.run or NAME.mac, has NAME.out. A comment that begins
   with `; lockmon ` has the words by which it is served. A folder with a file of runs is left to .ci/stored_runs.py.
 - A table NAME.queue.cases and so on has a script, ` | ` and what is written on it in each line.
-- A table NAME.rows has rows of the processor, which the program `machine_check` reads.
+- A table NAME.rows has rows of the processor, which `lockmon` assembles and `ka_run` carries out.
 
-The programs are those that `rt ci` built, by both compilers, or where there are words `lockmon=PATH` or
-`machine_check=PATH` these alone. The status of a run is 1 where its transcript ends with ?SCRIPT or ?ASM, and else 0.
+The programs are those that `rt ci` built, by both compilers; or `lockmon=PATH` alone, and with `ka_run=PATH` beside it
+the rows as well. The status of a run is 1 where its transcript ends with ?SCRIPT or ?ASM, and else 0.
 What differs is told, and the last line counts what holds."""
 import os
 import re
@@ -20,8 +20,10 @@ from dataclasses import dataclass
 from itertools import zip_longest
 from pathlib import Path
 
+import rows
+
 TOP = Path(__file__).resolve().parent.parent
-PROGRAMS = ("lockmon", "machine_check")
+PROGRAMS = ("lockmon", "ka_run")
 DOCUMENTS = ("docs/MANUAL.md", "docs/LOCKS.md", "docs/MACHINE.md")
 COMMANDS = {".queue": "queue", ".run": "run", ".mac": "asm"}
 BUILDS = ("", ".by-rattle")
@@ -199,39 +201,30 @@ def check_cases(program, cases):
     return told, f"{sum(not each for each in found)} of {len(cases)} examples, scripts and cases hold"
 
 
-def check_rows(program, table):
-    """What is told of the rows of a table of the processor, and how many hold."""
-    ran = subprocess.run([program, "rows", table], capture_output=True, timeout=SECONDS, text=True)
-    *told, held = (ran.stdout + ran.stderr).splitlines() or [""]
-    rows = sum(1 for line in lines_of(read(table)) if line.partition(b";")[0].strip())
-    if rows == 0 or held != f"{rows} rows hold" or ran.returncode != 0:
-        told.append(f"all of its {rows} rows should hold, and the status is {ran.returncode}")
-    return [f"{table}, {line}" for line in told], held
-
-
 def programs_of(words):
-    """The programs to be run, each with its name: as each compiler built them, or those that the words name."""
+    """The programs of each build by name: as each compiler built them, or those that the words name."""
     named = [word.partition("=") for word in words]
-    if not all(name in PROGRAMS and path for name, _, path in named):
-        print("usage: .ci/written.py [lockmon=PATH] [machine_check=PATH]", file=sys.stderr)
+    if not all(name in PROGRAMS and path for name, _, path in named) or named and "lockmon" not in (it[0] for it in named):
+        print("usage: .ci/written.py [lockmon=PATH [ka_run=PATH]]", file=sys.stderr)
         sys.exit(2)
     if named:
-        return [(name, os.path.abspath(path)) for name, _, path in named]
-    return [(name, f"{TOP}/crates/{name}/out/{name}{build}") for name in PROGRAMS for build in BUILDS]
+        return [{name: os.path.abspath(path) for name, _, path in named}]
+    return [{name: f"{TOP}/crates/{name}/out/{name}{build}" for name in PROGRAMS} for build in BUILDS]
 
 
 def main():
-    programs = programs_of(sys.argv[1:])
+    builds = programs_of(sys.argv[1:])
     os.chdir(TOP)
     cases = list(all_cases())
     tables = [path for path in files_of("tests") if path.suffix == ".rows"]
     if not tables:
         raise Wrong("tests: there are no rows")
     all_hold = True
-    for name, program in programs:
-        checks = [(check_cases, cases)] if name == "lockmon" else [(check_rows, table) for table in tables]
-        for check, checked in checks:
-            told, held = check(program, checked)
+    for build in builds:
+        lockmon, ka_run = build["lockmon"], build.get("ka_run")
+        found = [(lockmon, *check_cases(lockmon, cases))]
+        found += [(ka_run, *rows.check(lockmon, ka_run, table)) for table in tables if ka_run]
+        for program, told, held in found:
             print(*told, f"{os.path.relpath(program)}: {held}", sep="\n", file=sys.stderr)
             all_hold = all_hold and not told
     return 0 if all_hold else 1

@@ -51,7 +51,7 @@ static WAIT: Row = Row {
         "<title>job 1 owns X, ticks 2 to 64</title>",
         "<title>job 2 waits for X, tick",
         "Who waits for whom after tick 64",
-        "<title>job 2 waits for job 1, hard</title>",
+        "<title>job 2 waits for job 1, hard, for X</title>",
     ],
 };
 

@@ -26,28 +26,16 @@ pub enum Run {
     Measured(Measured),
 }
 
-/// A part of the program.
-#[derive(Clone, Copy)]
-pub enum Part<'a> {
-    /// A run on machines.
-    Run(Run),
-    /// What takes memory is made and served.
-    Growth,
-    /// The rows of a file hold of the processor.
-    Rows(&'a str),
-}
-
-/// What is made where no words ask for one part.
-pub static ALL: [Part<'static>; 4] = [
-    Part::Run(Run::Words(20_000)),
-    Part::Run(Run::Events(100_000, 1)),
-    Part::Growth,
-    Part::Run(Run::Measured(Measured {
+/// The runs that are made where no words ask for one.
+pub static ALL: [Run; 3] = [
+    Run::Words(20_000),
+    Run::Events(100_000, 1),
+    Run::Measured(Measured {
         load: Load::Ticked,
         count: 1000,
         jobs: 2,
         quantum: 1,
-    })),
+    }),
 ];
 
 impl Run {
@@ -99,14 +87,12 @@ fn measured(words: &[String]) -> Option<Measured> {
     })
 }
 
-/// The part that the words behind the program's name ask for.
-pub fn part_of(words: &[String]) -> Option<Part<'_>> {
+/// The run that the words behind the program's name ask for.
+pub fn run_of(words: &[String]) -> Option<Run> {
     match words.get(1)?.as_str() {
-        "words" => Some(Part::Run(Run::Words(number(words, 2)?))),
-        "events" => Some(Part::Run(Run::Events(number(words, 2)?, number(words, 3)?))),
-        "growth" => Some(Part::Growth),
-        "rows" => Some(Part::Rows(words.get(2)?.as_str())),
-        "bench" => Some(Part::Run(Run::Measured(measured(words)?))),
+        "words" => Some(Run::Words(number(words, 2)?)),
+        "events" => Some(Run::Events(number(words, 2)?, number(words, 3)?)),
+        "bench" => Some(Run::Measured(measured(words)?)),
         _ => None,
     }
 }

@@ -1,44 +1,35 @@
-//! A small program of the gate, whose parts look at the machine, the processor and what takes memory.
+//! A small program of the gate, which runs machines whose programs mean harm.
 //!
 //! `words N`: sixteen jobs execute words drawn at random for N rounds, on two machines with different tables
 //! of locks and stores of core. `events N SEED`: N events as an operator and users at all lines might make
-//! them, with a look at the whole state every 10,000. `growth`: what takes memory is made and served.
-//! `rows FILE`: instructions, each with what it leaves. `bench LOAD COUNT JOBS QUANTUM`: a loop, for
-//! measuring. Without words, those that need no file.
+//! them, with a look at the whole state every 10,000. `bench LOAD COUNT JOBS QUANTUM`: a loop, for
+//! measuring. Without words, each of these at a size of its own.
 #![tactic(auto)]
 
 mod asked;
 mod events;
 mod generator;
-mod growths;
-mod job_state;
 mod machines;
-mod made;
 mod measured;
 mod plain_check;
 mod random_words;
-mod rows;
 mod safe;
-mod served;
 mod user_programs;
 mod users;
-mod whole_program;
 
-use asked::{ALL, Part, part_of};
-use growths::growths;
+use asked::{ALL, run_of};
 use machines::on_machines;
-use rows::check_rows;
 use std::process::ExitCode;
-use std::rt::{Env, Files};
-use std::{env, fs, io};
+use std::rt::Env;
+use std::{env, io};
 
 /// The status where something does not hold.
 const WRONG: u8 = 1;
 
-/// The status where the words ask for no part.
+/// The status where the words ask for nothing.
 const USAGE: u8 = 2;
 
-/// The status where memory was refused, and nothing is wrong.
+/// The status where memory was refused.
 const REFUSED: u8 = 3;
 
 /// The words of the command line, which begin with the program's name.
@@ -46,30 +37,20 @@ fn words_given<R: Env + AllocGlobal>(rt: &R) -> io::Result<Vec<String>> {
     Ok(env::args(rt)?.collect(rt.alloc())?)
 }
 
-/// Makes a part, and gives the status that belongs to it.
-fn make<R: Files + Print + AllocGlobal>(rt: &R, part: Part) -> io::Result<u8> {
-    let holds = match part {
-        Part::Run(run) => on_machines(rt, run)?,
-        Part::Rows(name) => check_rows(rt, fs::read_to_string(rt, name)?.as_str())?,
-        Part::Growth => return growths(rt),
-    };
-    Ok(if holds { 0 } else { WRONG })
-}
-
 fn main(rt: HostRuntime) -> io::Result<ExitCode> {
     let Ok(words) = words_given(&rt) else {
         return Ok(ExitCode::from(REFUSED));
     };
-    let mut status = 0;
+    let mut holds = true;
     if words.len() > 1 {
-        status = match part_of(words.as_slice()) {
-            Some(part) => make(&rt, part)?,
-            None => USAGE,
-        };
+        match run_of(words.as_slice()) {
+            Some(run) => holds = on_machines(&rt, run)?,
+            None => return Ok(ExitCode::from(USAGE)),
+        }
     } else {
-        for part in ALL.iter() {
-            status = make(&rt, *part)?.max(status);
+        for run in ALL.iter() {
+            holds = on_machines(&rt, *run)? && holds;
         }
     }
-    Ok(ExitCode::from(status))
+    Ok(ExitCode::from(if holds { 0 } else { WRONG }))
 }
