@@ -18,7 +18,8 @@ impl Machine {
     pub fn pair_table(&self, waiting: &JobMarks) -> PairTable
         requires { (j : ℕ) → j < NUMBERS → slice_index_or waiting.now j false ≡ is_waiting_job self.now.world.requests j }
         ensures marked { MarksWaiters waiting.now (pair_in result) }
-        ensures pairs { (i : ℕ) → i < PAIRS → slice_index_or result i false ≡ waits_for self.now.world.requests (i / NUMBERS) (i % NUMBERS) }
+        ensures pairs { (i : ℕ) → i < PAIRS
+            → slice_index_or result i false ≡ waits_for self.now.world.requests (i / NUMBERS) (i % NUMBERS) }
     {
         pair_table(self.locks(), waiting)
     }
