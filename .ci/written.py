@@ -20,6 +20,7 @@ from dataclasses import dataclass
 from itertools import zip_longest
 from pathlib import Path
 
+sys.dont_write_bytecode = True
 import rows
 
 TOP = Path(__file__).resolve().parent.parent
