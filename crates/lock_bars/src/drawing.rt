@@ -21,6 +21,6 @@ pub struct Drawing {
     pub at_column: usize,
     /// Who waits for whom then.
     pub graph: Graph,
-    /// The same, each wait with its lock, by rising numbers of jobs.
+    /// Each wait of `graph` with its lock, by rising numbers of the jobs that wait.
     pub arrows: Vec<Arrow>,
 }
