@@ -36,6 +36,26 @@ class Edit:
     def __str__(self):
         return f"{self.crate}/{self.name}"
 
+    def pairs(self):
+        """Gives the file that it changes, and each text that goes with the one that comes in its place."""
+        lines = crates.text_of(self.path).splitlines()
+        file = next(it.removeprefix("file: ") for it in lines if it.startswith("file: "))
+        olds, news = ([it.removeprefix(word) for it in lines if it.startswith(word)] for word in ("old: ", "new: "))
+        return f"{crates.TOP}/crates/{self.crate}/{file}", list(zip(olds, news, strict=True))
+
+    def is_fit(self):
+        """Gives whether it can be made: each text that goes stands in its file once."""
+        try:
+            file, pairs = self.pairs()
+            text = crates.text_of(file)
+        except (OSError, StopIteration, ValueError):
+            return False
+        for old, new in pairs:
+            if text.count(old) != 1:
+                return False
+            text = text.replace(old, new)
+        return bool(pairs)
+
     def sum(self):
         """Gives the sum of all that the verdict on it rests on."""
         own = (crates.sum_of(self.crate), self.name, crates.text_of(self.path))

@@ -1,4 +1,4 @@
-//! A job's memory, and what a call is told of a block there.
+//! A job's memory, and what a call finds of a block there.
 
 use call_block::{Block, read_block};
 use ka_cpu::{Flags, JobMemory, Regs};
@@ -49,7 +49,7 @@ pub struct Job {
     core: Core,
 }
 
-/// What a call is told of a block.
+/// What a call finds of a block.
 #[derive(Clone, Copy)]
 pub enum Fact {
     /// The block is refused so, or is not refused.
@@ -84,7 +84,7 @@ fn is_share(pool: Option<Pool>, share: Option<(u32, u32)>) -> bool {
 }
 
 impl Fact {
-    /// Whether it is told of the first lock.
+    /// Whether it is a fact of the first lock.
     fn is_of_want(&self, want: &Want) -> bool {
         match (self, &want.key.name) {
             (Fact::Text(wanted), Name::Text(text)) => text.as_str() == *wanted,
@@ -99,7 +99,7 @@ impl Fact {
         }
     }
 
-    /// Whether it is told of a block that is read.
+    /// Whether it is a fact of a block that is read.
     fn is_of(&self, block: &Block) -> bool {
         match self {
             Fact::Refused(refusal) => refusal.is_none(),
@@ -142,38 +142,38 @@ impl Job {
         })
     }
 
-    /// Stores a word at a place, where it is legal.
-    fn store(&mut self, place: u32, word: Word) {
-        if place < 16 {
-            self.regs.ac[place as usize] = word;
+    /// Stores a word at an address, where it is legal.
+    fn store(&mut self, address: u32, word: Word) {
+        if address < 16 {
+            self.regs.ac[address as usize] = word;
         } else {
-            let _ = self.core.write(place, word);
+            let _ = self.core.write(address, word);
         }
     }
 
-    /// Stores words, given as halves, from a place on.
-    pub fn put(&mut self, place: u32, words: &[Halves]) {
-        for (place, (left, right)) in (place..u32::MAX).zip(words) {
-            self.store(place, Word::join(*left & 0o777_777, *right & 0o777_777));
+    /// Stores words, given as halves, from an address on.
+    pub fn put(&mut self, address: u32, words: &[Halves]) {
+        for (address, (left, right)) in (address..u32::MAX).zip(words) {
+            self.store(address, Word::join(*left & 0o777_777, *right & 0o777_777));
         }
     }
 
     /// Stores a text as ASCIZ does: five characters a word from the left, bit 35 zero.
-    pub fn put_text(&mut self, place: u32, text: &str) {
-        for (place, five) in (place..u32::MAX).zip(text.as_bytes().chunks(5)) {
+    pub fn put_text(&mut self, address: u32, text: &str) {
+        for (address, five) in (address..u32::MAX).zip(text.as_bytes().chunks(5)) {
             let mut number: u64 = 0;
             for k in 0..5 {
                 let character = five.get(k).copied().unwrap_or(0);
                 number = (number << 7 | u64::from(character)) & 0o377_777_777_777;
             }
-            self.store(place, Word::low_bits(number << 1));
+            self.store(address, Word::low_bits(number << 1));
         }
     }
 
-    /// Whether a call of this use is told so of the block at an address.
-    pub fn told(&self, address: u32, block_use: BlockUse, fact: Fact) -> bool {
-        let place = Address::new(address & 0o777_777);
-        match read_block(&self.regs, &self.core, place, JOB, block_use) {
+    /// Whether a call of this use finds this of the block at an address.
+    pub fn finds(&self, address: u32, block_use: BlockUse, fact: Fact) -> bool {
+        let at = Address::new(address & 0o777_777);
+        match read_block(&self.regs, &self.core, at, JOB, block_use) {
             Ok(block) => fact.is_of(&block),
             Err(refusal) => fact.is_refusal(refusal),
         }

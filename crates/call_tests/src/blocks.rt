@@ -3,7 +3,7 @@
 use crate::block_job::Fact::{Id, InGroup, Limit, Locks, NameOf, Refused, Share, Terms};
 use crate::block_job::{Fact, Halves};
 use crate::block_rows::Row::{
-    Ends, First, Group, Heads, Limited, Pointer, Pool, Text, Told, Words,
+    Ends, First, Group, Heads, Limited, Pointer, Pool, Stored, Text, Words,
 };
 use crate::block_rows::{BLOCK, CODE, NAME, NO_POOL, PLAIN, Row, walk};
 use lock_queue::BlockUse::{Blocking, Full};
@@ -22,7 +22,7 @@ const QUALIFIER_REFUSED: Option<Refusal> = Some(Refusal::BadQualifier);
 const POOL_REFUSED: Option<Refusal> = Some(Refusal::BadPool);
 
 /// The block of one lock whose name, X, stands at 153 octal.
-static A_BLOCK_IS_READ: [Row; 1] = [Told(
+static A_BLOCK_IS_READ: [Row; 1] = [Stored(
     &[
         (
             0o145,
@@ -95,8 +95,8 @@ fn names_at_the_end_of_core(rt: HostRuntime) {
     walk(&rt, rt.alloc(), &NAMES_AT_THE_END_OF_CORE);
 }
 
-/// The position, the size, the bits beside I and X, and the place; a `bit` is octal 101 at an odd
-/// position, and the place behind 777777 is register 0.
+/// The position, the size, the bits beside I and X, and the address; a `bit` is octal 101 at an odd
+/// position, and the address behind 777777 is register 0.
 static POINTERS_OF_NAMES: [Row; 13] = [
     Pointer((0o440_700, NAME), Fact::Text("X")),
     Pointer((0o440_740, NAME), Fact::Text("X")),
@@ -176,7 +176,7 @@ static LIMITS: [Row; 6] = [
     Limited(5),
     Limited(0o400_000),
     Limited(0o777_777),
-    Told(
+    Stored(
         &[(BLOCK, &[(17, 53), (1, 7)])],
         BLOCK,
         &[

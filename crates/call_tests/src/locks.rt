@@ -103,7 +103,7 @@ fn code_2(rt: HostRuntime) {
     walk(&rt, rt.alloc(), &CODE_2);
 }
 
-/// Blocks that each call refuses as such: for their length, their place, and for no lock and 17.
+/// Blocks that each call refuses as such: for their length, their address, and for no lock and 17.
 static CODES_3_AND_4: [Row; 9] = [
     Does(Stores(1, 0o400, &[0o1_000004, 1])),
     LockCalls(0o400, (NEXT, 3)),
@@ -199,7 +199,7 @@ fn codes_13_and_1(rt: HostRuntime) {
 /// The most requests, as a quota.
 const FULL: u16 = MOST_REQUESTS as u16;
 
-/// A full queue takes no request more; a job that has as many as it may have is told of its quota first.
+/// A full queue takes no request more; a job that has as many as it may have is refused for its quota first.
 static CODE_14: [Row; 5] = [
     Does(HasQuota(1, FULL + 1)),
     Fills(MOST_REQUESTS),

@@ -69,7 +69,7 @@ impl Machine {
         };
         let mut job = Job::new(LineNumber::new(line), regs, Address::new(BACK), QUOTA);
         job.stop = None;
-        self.table.place(n, job);
+        self.table.put(n, job);
     }
 
     /// The job of a number.
@@ -121,7 +121,7 @@ impl Machine {
         }
         if let Some(mut job) = self.job(n) {
             job.wait = wait;
-            self.table.place(n, job);
+            self.table.put(n, job);
         }
     }
 
@@ -132,7 +132,7 @@ impl Machine {
         }
         if let Some(mut job) = self.job(n) {
             job.quota = quota;
-            self.table.place(n, job);
+            self.table.put(n, job);
         }
     }
 
@@ -151,7 +151,7 @@ impl Machine {
         self.rewind(n);
         if let Some(mut job) = self.job(n) {
             job.interrupts.in_progress = true;
-            self.table.place(n, job);
+            self.table.put(n, job);
         }
     }
 
@@ -193,7 +193,7 @@ impl Machine {
         }
         if let Some(mut job) = self.job(n) {
             job.regs.ac[ac as usize % 16] = Word::low_bits(word);
-            self.table.place(n, job);
+            self.table.put(n, job);
         }
     }
 
@@ -206,7 +206,7 @@ impl Machine {
             job.regs.pc = Address::new(NEXT);
             job.stop = None;
             job.wait = Wait::None;
-            self.table.place(n, job);
+            self.table.put(n, job);
         }
     }
 
@@ -218,7 +218,7 @@ impl Machine {
         }
     }
 
-    /// The word at a place of a job's core.
+    /// The word at an address of a job's core.
     pub fn word(&self, n: u8, a: u32) -> Option<u64> {
         if n == 0 || n > JOBS {
             return None;
@@ -227,7 +227,7 @@ impl Machine {
         Some(word.number())
     }
 
-    /// Stores words in a job's core from a place on, as far as it reaches.
+    /// Stores words in a job's core from an address on, as far as it reaches.
     pub fn store(&mut self, n: u8, from: usize, words: &[u64]) {
         if n == 0 || n > JOBS {
             return;

@@ -90,12 +90,12 @@ impl Machine {
         self.locks.len()
     }
 
-    /// Whether the request of this place in the order of arrival is there and granted.
+    /// Whether the request of this position in the order of arrival is there and granted.
     pub fn is_granted(&self, i: usize) -> bool {
         i < self.locks.len() && self.locks.granted(i)
     }
 
-    /// The id of the grant that a job is yet to be told of.
+    /// The id of the grant that a job is yet to be notified of.
     pub fn pending(&self, n: u8) -> Option<u32> {
         let id = self.locks.pending(n)?;
         Some(id.number())

@@ -20,9 +20,9 @@ pub enum Act {
     Comes(u8, u8),
     /// A job is taken away.
     Goes(u8),
-    /// Words are stored in a job's core from a place on.
+    /// Words are stored in a job's core from an address on.
     Stores(u8, usize, &'static [u64]),
-    /// A block is stored in a job's core at a place, with an id and at most 16 locks.
+    /// A block is stored in a job's core at an address, with an id and at most 16 locks.
     Block(u8, usize, u64, &'static [Lock]),
     /// A word is put in an AC of a job.
     PutsAc(u8, u8, u64),
@@ -53,7 +53,7 @@ pub enum Act {
 /// Something that is seen of a machine. The number of a job comes first.
 #[derive(Clone, Copy)]
 pub enum Sight {
-    /// The word at a place of a job's core, if the place is legal.
+    /// The word at an address of a job's core, if the address is legal.
     Word(u8, u32, Option<u64>),
     /// The word in an AC of a job.
     Ac(u8, u8, u64),
@@ -61,9 +61,9 @@ pub enum Sight {
     Blocks(u8, u32),
     /// How many requests there are.
     Requests(usize),
-    /// Whether the request of this place in the order of arrival is granted.
+    /// Whether the request of this position in the order of arrival is granted.
     Granted(usize, bool),
-    /// The id of the grant that a job is yet to be told of.
+    /// The id of the grant that a job is yet to be notified of.
     Pending(u8, Option<u32>),
     /// What a job waits for.
     WaitsFor(u8, Wait),
@@ -160,7 +160,7 @@ impl Sight {
     /// Whether it is seen.
     fn is_seen(&self, machine: &Machine) -> bool {
         match self {
-            Sight::Word(job, place, word) => machine.word(*job, *place) == *word,
+            Sight::Word(job, address, word) => machine.word(*job, *address) == *word,
             Sight::Ac(job, ac, word) => machine.ac(*job, *ac) == *word,
             Sight::Blocks(job, blocks) => machine.blocks(*job) == *blocks,
             Sight::Requests(count) => machine.requests() == *count,

@@ -1,4 +1,4 @@
-//! TTCALL functions: what they put and read, their empty steps, and illegal places.
+//! TTCALL functions: what they put and read, their empty steps, and illegal addresses.
 
 use crate::machine::{BACK, NEXT, SKIPPED};
 use crate::rows::Act::{Outputs, Stores, Types};
@@ -131,7 +131,7 @@ fn characters_are_read(rt: HostRuntime) {
     walk(&rt, rt.alloc(), &CHARACTERS_ARE_READ);
 }
 
-/// A place past core stops the job, also where there is no character and no room.
+/// An address past core stops the job, also where there is no character and no room.
 static ILLEGAL_PLACES: [Row; 18] = [
     Tty(INCHRW, 0o2000, STOPPED),
     Sees(Stopped(1, ILLEGAL)),

@@ -6,7 +6,7 @@ use ka_cpu::{Outcome, Regs, StopReason, step};
 use word36::Word;
 
 /// MOVE 1,@200 with a chain of so many indirect words from 200 octal on, the last of which names 1000
-/// octal, where 7 stands; or, where `open` is true, a place past core through one word more.
+/// octal, where 7 stands; or, where `open` is true, an address past core through one word more.
 fn follow(links: usize, open: bool) -> (Regs, Outcome) {
     let mut core = [Word::new(0); 1024];
     let mut regs = fresh(USER);
@@ -54,8 +54,8 @@ fn bytes_in_turn(rt: HostRuntime) {
     let mut core = [Word::new(0); 1024];
     let mut regs = fresh(USER);
     put(&mut regs, &mut core, 0o200, 0o440700_001000);
-    for place in 0o140..0o146usize {
-        put(&mut regs, &mut core, place, 0o134100_000200);
+    for address in 0o140..0o146usize {
+        put(&mut regs, &mut core, address, 0o134100_000200);
     }
     let pointers = [
         0o350700_001000,

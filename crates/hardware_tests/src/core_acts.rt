@@ -14,9 +14,9 @@ use word36::{JOBS, MOST_BLOCKS, Word};
 pub enum Act {
     /// A job has so many blocks from now on, and no core where that is 0.
     Blocks(u8, u32),
-    /// A number is stored at a place of a job's core.
+    /// A number is stored at an address of a job's core.
     Write(u8, u32, u32),
-    /// The word at a place of a job's core.
+    /// The word at an address of a job's core.
     Read(u8, u32),
     /// How many blocks a job has.
     Has(u8),
@@ -24,7 +24,7 @@ pub enum Act {
     Free,
 }
 
-/// An act and the number that answers it. None is a refusal, or a place that is not there.
+/// An act and the number that answers it. None is a refusal, or an address that is not there.
 pub type Row = (Act, Option<u64>);
 
 /// The number that answers an act: the free blocks after `Blocks`, and what is stored by `Write`.
@@ -122,13 +122,13 @@ fn next_random(x: u64) -> u64 {
 fn random_act(x: u64) -> Act {
     let job = (x >> 17) % u64::from(JOBS) + 1;
     let blocks = (x >> 24) % 6;
-    let place = (x >> 27) % 6144;
+    let address = (x >> 27) % 6144;
     let number = (x >> 12) % 65536;
     match (x >> 44) % 4 {
         0 => Act::Blocks(job as u8, blocks as u32),
         1 => Act::Blocks(job as u8, blocks as u32 * 2),
-        2 => Act::Write(job as u8, place as u32, number as u32),
-        _ => Act::Read(job as u8, place as u32),
+        2 => Act::Write(job as u8, address as u32, number as u32),
+        _ => Act::Read(job as u8, address as u32),
     }
 }
 

@@ -4,7 +4,8 @@ ghost use Rattle.std.specs.Prelude.{◌≡◌, ◌≢◌, ◌≤◌, ◌<◌, �
 ghost use Rattle.std.specs.Prelude.{replicate, nat_lt, take, OnOk, OnErr, IfOk, IsOk, IsTrue};
 ghost use Rattle.ka_cpu.specs.Exec.{exec};
 ghost use Rattle.ka_cpu.specs.Memory.{word_at};
-ghost use Rattle.core_store.specs.Cores.{IsJob, IsStore, Cores, core_of, blocks_of, with_core, all_free, taken, resized, given, resized_words};
+ghost use Rattle.core_store.specs.Cores.{IsJob, IsStore, Cores, core_of, blocks_of, with_core};
+ghost use Rattle.core_store.specs.Cores.{all_free, taken, resized, given, resized_words};
 ghost use Rattle.std.specs.Prelude.{Some, None};
 
 use core_store::{CoreStore, NoCore};
@@ -37,7 +38,8 @@ pub fn write_in<C: CoreStore>(cores: &mut C, job: u8, a: u32, word: Word) -> boo
 /// Executes one instruction of a job in its core.
 pub fn step_in<C: CoreStore>(cores: &mut C, job: u8, regs: &mut Regs) -> Outcome
     requires { IsJob job }
-    ensures exec { record { regs = regs.new; core = core_of (C.meaning cores.new) job; outcome = result } ≡ exec regs.old (core_of (C.meaning cores.old) job) }
+    ensures exec { record { regs = regs.new; core = core_of (C.meaning cores.new) job; outcome = result }
+        ≡ exec regs.old (core_of (C.meaning cores.old) job) }
     ensures cores { C.meaning cores.new ≡ with_core (C.meaning cores.old) job (exec regs.old (core_of (C.meaning cores.old) job)).core }
 {
     let words = cores.window(job);
@@ -73,7 +75,7 @@ pub fn log_in<C: CoreStore>(cores: &mut C, job: u8, blocks: u32, word: Word) -> 
     Ok(())
 }
 
-/// Copies a word from one job's core to another's, where both have its place.
+/// Copies a word from one job's core to another's, where both have its address.
 pub fn copy_word<C: CoreStore>(cores: &mut C, from: u8, to: u8, a: u32) -> bool
     requires from { IsJob from }
     requires to { IsJob to }

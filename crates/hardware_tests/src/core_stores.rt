@@ -77,7 +77,7 @@ fn stores_answer_alike(rt: HostRuntime) -> Result<(), Fail> {
 }
 
 /// Whether the callers of this crate leave jobs 1, 2 and 3 of a store of 14 blocks one, one and two of them, and a
-/// word each at two places of job 2.
+/// word each at two addresses of job 2.
 fn callers_run<C: CoreStore>(alloc: Global) -> Result<bool, Fail> {
     let mut cores = C::new(alloc, 14)?;
     let word = Word::new(0o254_020_000_144);
@@ -102,9 +102,9 @@ fn generic_callers_run(rt: HostRuntime) -> Result<(), Fail> {
     Ok(())
 }
 
-/// Registers of zeros, with the program counter at this place.
-fn regs_at(place: u32) -> Regs
-    requires { place < 2 ^ 18 }
+/// Registers of zeros, with the program counter at this address.
+fn regs_at(address: u32) -> Regs
+    requires { address < 2 ^ 18 }
 {
     let flags = Flags {
         overflow: false,
@@ -114,14 +114,14 @@ fn regs_at(place: u32) -> Regs
     };
     Regs {
         ac: [Word::new(0); 16],
-        pc: Address::new(place),
+        pc: Address::new(address),
         flags,
     }
 }
 
 /// Job 2 executes MOVEI 1,5 and MOVEM 1,100 with a move of its core in between, beside jobs 1 and 3,
 /// where a zero is no instruction. Whether all was executed, and the word at 100 is 0 of job 1 and 5 of
-/// job 2, which finds 5 at places 1 and 100.
+/// job 2, which finds 5 at addresses 1 and 100.
 fn steps_run<C: CoreStore>(alloc: Global) -> Result<bool, AllocError> {
     let mut cores = C::new(alloc, 4)?;
     for job in 1..=3 {

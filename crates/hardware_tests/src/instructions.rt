@@ -13,7 +13,7 @@ type Halves = (u32, u32);
 /// The fields of a word: its operation, accumulator, indirect bit, index register and address.
 type FieldsOf = (u16, u8, bool, u8, u32);
 
-/// What is told of an operation, a name or a word.
+/// What holds of an operation, a name or a word.
 enum Row {
     /// The fields of a word.
     Decodes(Halves, FieldsOf),
@@ -77,7 +77,7 @@ fn is_named(op: u16, name: &str) -> bool {
 }
 
 impl Row {
-    /// Whether it is told so.
+    /// Whether it holds.
     fn holds(&self) -> bool {
         match self {
             Row::Decodes(halves, fields) => decodes(word(*halves), *fields),

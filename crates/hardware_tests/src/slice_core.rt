@@ -72,21 +72,21 @@ mod job {
         }
     }
 
-    /// Puts a word at a place.
-    pub fn put(regs: &mut Regs, core: &mut [Word], place: usize, number: u64) {
-        if place < 16 {
-            regs.ac[place] = Word::low_bits(number);
-        } else if place < core.len() {
-            core[place] = Word::low_bits(number);
+    /// Puts a word at an address.
+    pub fn put(regs: &mut Regs, core: &mut [Word], address: usize, number: u64) {
+        if address < 16 {
+            regs.ac[address] = Word::low_bits(number);
+        } else if address < core.len() {
+            core[address] = Word::low_bits(number);
         }
     }
 
-    /// The number at a place.
-    pub fn look(regs: &Regs, core: &[Word], place: usize) -> u64 {
-        if place < 16 {
-            regs.ac[place].number()
-        } else if place < core.len() {
-            core[place].number()
+    /// The number at an address.
+    pub fn look(regs: &Regs, core: &[Word], address: usize) -> u64 {
+        if address < 16 {
+            regs.ac[address].number()
+        } else if address < core.len() {
+            core[address].number()
         } else {
             0
         }

@@ -35,15 +35,15 @@ enum Made {
     Not(Halves),
 }
 
-/// What is told of a word, a place, a number or a name; what is told comes last.
+/// What holds of a word, an address, a number or a name; what is wanted comes last.
 enum Row {
     /// The text of a word.
     Text(Halves, &'static str),
-    /// The text of a place, and of the half that is its number.
+    /// The text of an address, and of the half that is its number.
     PlaceText(u32, &'static str),
-    /// No place has this number.
+    /// No address has this number.
     NoPlace(u32),
-    /// The place so many behind a place.
+    /// The address so many behind an address.
     Plus(u32, u32, u32),
     /// The text of a number, without leading zeros.
     Digits(u64, &'static str),
@@ -66,20 +66,20 @@ fn word(halves: Halves) -> Word {
     Word::join(halves.0 & 0o777_777, halves.1 & 0o777_777)
 }
 
-/// Whether a place and the half that is its number have this text.
+/// Whether an address and the half that is its number have this text.
 fn is_place(number: u32, text: &str) -> bool {
     match Address::try_new(number) {
-        Some(place) => {
-            place.octal().as_str() == text && octal_half(place.number()).as_str() == text
+        Some(address) => {
+            address.octal().as_str() == text && octal_half(address.number()).as_str() == text
         }
         None => false,
     }
 }
 
-/// Whether the place so many behind a place has this number.
+/// Whether the address so many behind an address has this number.
 fn leads_to(number: u32, more: u32, behind: u32) -> bool {
     match Address::try_new(number) {
-        Some(place) => place.plus(more & 0o777_777).number() == behind,
+        Some(address) => address.plus(more & 0o777_777).number() == behind,
         None => false,
     }
 }
@@ -122,7 +122,7 @@ impl Made {
 }
 
 impl Row {
-    /// Whether it is told so.
+    /// Whether it holds.
     fn holds(&self) -> bool {
         match self {
             Row::Text(halves, text) => word(*halves).octal().as_str() == *text,

@@ -55,7 +55,7 @@ pub fn hold_the_same<L: LockTable, M: LockTable>(a: &L, b: &M) -> bool {
     true
 }
 
-/// Whether two tables tell a job the same: whether it waits, and of which grant it is to be told.
+/// Whether two tables answer the same of a job: whether it waits, and of which grant it is to be notified.
 fn tell_a_job_the_same<L: LockTable, M: LockTable>(a: &L, b: &M, job: u8) -> bool {
     a.is_waiting(job) == b.is_waiting(job) && a.pending(job) == b.pending(job)
 }

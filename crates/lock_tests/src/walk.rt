@@ -36,7 +36,7 @@ pub enum Row<'a> {
     Withdraws(u8),
     /// The requests by which the jobs of a set wait are taken out: job `j` where bit 2^j is set.
     WithdrawsAll(u64),
-    /// A job is told of its pending grant.
+    /// A job is notified of its pending grant.
     Tells(u8),
     /// All requests are taken out.
     Clears,
@@ -50,9 +50,9 @@ pub enum Row<'a> {
     Waits(u8, bool),
     /// Whether a job waits for another.
     WaitsFor(u8, u8, bool),
-    /// The id of the grant that a job is yet to be told of.
+    /// The id of the grant that a job is yet to be notified of.
     Pending(u8, Option<u32>),
-    /// The three words that a job is told of a user code.
+    /// The three words that a job is given on a user code.
     Status(u8, u32, [u64; 3]),
 }
 
@@ -146,7 +146,7 @@ fn are_granted<L: LockTable>(table: &L, ids: &[u32]) -> bool {
     next == ids.len()
 }
 
-/// The three words that a job is told of a user code.
+/// The three words that a job is given on a user code.
 fn words<L: LockTable>(table: &L, job: u8, code: u32) -> [u64; 3] {
     table
         .status(&key(code), job)

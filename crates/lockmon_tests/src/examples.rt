@@ -12,7 +12,7 @@ pub struct Example {
     pub lines: &'static [(&'static str, &'static str)],
 }
 
-/// Two jobs count to 100 each, under a lock. ENDASM stands at the place `END_OF_SOURCE`.
+/// Two jobs count to 100 each, under a lock. ENDASM stands at the position `END_OF_SOURCE`.
 pub const COUNTING: Example = Example {
     kind: Kind::Run,
     lines: &[
@@ -50,7 +50,7 @@ pub const COUNTING: Example = Example {
     ],
 };
 
-/// The place of ENDASM among the lines of the counting script.
+/// The position of ENDASM among the lines of the counting script.
 pub const END_OF_SOURCE: usize = 24;
 
 /// A lock goes from one job to the next.

@@ -1,4 +1,4 @@
-//! Lines made of pieces of the grammar: a fault is told of exactly those that are refused.
+//! Lines made of pieces of the grammar: a fault is reported of exactly those that are refused.
 
 use fault_text::{Refused, explain};
 use op_script::is_command;
@@ -248,7 +248,7 @@ impl Language<'_> {
         }
     }
 
-    /// Whether nothing is told to be wrong with the form of a line.
+    /// Whether nothing is reported as wrong with the form of a line.
     fn is_told_right(&self, alloc: Global, line: &[u8]) -> Result<bool, AllocError> {
         let text = explain(alloc, self.refused, line)?;
         let text = text.as_str();
@@ -261,7 +261,7 @@ impl Language<'_> {
         })
     }
 
-    /// Makes lines: the first that is told right and is not in the grammar, or that is told wrong and is. Of the
+    /// Makes lines: the first that is reported right and is not in the grammar, or reported wrong and is. Of the
     /// others it counts those that are in the grammar.
     fn told_otherwise(
         &self,

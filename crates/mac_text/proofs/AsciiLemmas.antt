@@ -12,6 +12,7 @@ use Rattle.std.proofs.lemmas.List.Sums.{prefix_len_passes}
 use Rattle.std.proofs.lemmas.Str.{IsUtf8-from_ascii}
 use Rattle.mac_text.specs.Characters.{is_name_character, upper_case}
 use Rattle.mac_text.specs.Scan.{word_of}
+use Rattle.mac_text.proofs.WordLemmas.{word_passes, word_within}
 
 -- ---- texts
 
@@ -57,3 +58,6 @@ counted_is_ascii n name h = map_is_ascii (take n name) (take_is_ascii n name h)
 
 pub is_text : (name : List ℕ) → IsAscii name → IsUtf8 name
 is_text name h = IsUtf8-from_ascii name h
+
+-- a word is a part of its text, of characters of names, which are ASCII
+pub ruleset ascii_words = (word_is_ascii, word_passes, word_within)

@@ -99,3 +99,6 @@ more_from s (c ∷ cs) e step = rw (ap length e, step) refl
 -- nor do those before the sign of the next
 pub more_behind_blanks : (s : Scan) → items_at next_term_at (length s.rest) (skipped s) ≡ items_at next_term_at (length s.rest) s
 more_behind_blanks s = more_from s s.rest refl (next_behind_blanks s)
+
+-- how the terms of an expression are parted, with blanks before them or not
+pub ruleset terms_parted = (no_more_terms, more_behind_blanks, first_behind_blanks, skip_twice)

@@ -37,3 +37,6 @@ skip_twice (c ∷ text) = skip_further c text (is_blank c) refl (skip_twice text
 pub no_word_in_nothing : (text : List ℕ) → length text ≤ 0 → [] ≡ word_of (after_blanks text)
 no_word_in_nothing [] h = refl
 no_word_in_nothing (c ∷ text) h = absurd (omega arith)
+
+-- how far a label reaches
+pub ruleset label_lengths = (word_length, skip_twice)

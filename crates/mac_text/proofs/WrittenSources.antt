@@ -187,3 +187,6 @@ source_refused ls text end rest on one none =
     ∙ ap (with_lines (source_given ls))
     (line_fails (radix_behind 8 ls) (1 + length ls) text (lines rest) (lines behind) (first_line text end rest one) none
     ∙ ap Err number)
+
+-- how a written source is read: to its end, to END, to its first refused line
+pub ruleset written_sources_read = (whole_source_read, open_source_read, ended_source_read, source_refused)

@@ -200,7 +200,7 @@ fn more_terms(scan: &mut Scanner<'_>, most: usize, expression: &mut Expression) 
 
 /// An expression: a sign or none, and terms joined by signs.
 #[inline(never)]
-#[tactic(auto, unfolding(crate::specs::Expressions::expression_at), using(crate::proofs::TermLemmas::no_more_terms, crate::proofs::TermLemmas::more_behind_blanks, crate::proofs::TermLemmas::first_behind_blanks, crate::proofs::WordLemmas::skip_twice))]
+#[tactic(auto, unfolding(crate::specs::Expressions::expression_at), using(crate::proofs::TermLemmas::terms_parted))]
 pub fn expression(scan: &mut Scanner<'_>) -> Result<Expression, Fault>
     ensures { Gives (λ x. (x, scan.new)) result (expression_at scan.old) }
 {

@@ -25,7 +25,7 @@ pub fn an_example_is_written()
 /// A source is read as its lines are written, each in the radix that those before it leave: lines with their ends alone, or
 /// with a last line that has no end, or with END, behind which anything may stand. The first line that is not in the grammar
 /// is reported by its number.
-#[tactic(auto, using(crate::proofs::WrittenSources::whole_source_read, crate::proofs::WrittenSources::open_source_read, crate::proofs::WrittenSources::ended_source_read, crate::proofs::WrittenSources::source_refused))]
+#[tactic(auto, using(crate::proofs::WrittenSources::written_sources_read))]
 pub fn written_sources_are_read()
     ensures whole { (lines : List SourceLine) → GoOn 8 lines → program_of (source_before lines []) ≡ Ok (source_given lines) }
     ensures unended { (lines : List SourceLine) (last : SourceLine) → GoOn 8 lines → last.radix ≡ radix_behind 8 lines

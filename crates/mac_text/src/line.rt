@@ -21,7 +21,7 @@ use std::alloc::Global;
 
 /// Reads a label: a name with a colon right behind it; None if no label comes next. The second of the pair is the word that
 /// stands there, label or not.
-#[tactic(auto, unfolding(crate::specs::Lines::next_label_at), using(crate::proofs::WordLemmas::word_length, crate::proofs::WordLemmas::skip_twice))]
+#[tactic(auto, unfolding(crate::specs::Lines::next_label_at), using(crate::proofs::WordLemmas::label_lengths))]
 fn next_label<'a>(scan: &mut Scanner<'a>) -> (Option<Symbol>, &'a [u8])
     ensures label { next_label_at scan.old ≡ Some (result.0, scan.new) }
     ensures word { IfNone result.0 (result.1.now ≡ word_of (after_blanks scan.new.rest)) }

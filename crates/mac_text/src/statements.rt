@@ -319,7 +319,7 @@ fn named_statement(
 }
 
 /// Reads a statement that begins with this word into `out`. Most begin with the name of an operation.
-#[tactic(auto, unfolding(crate::specs::Statements::statement_at), using(crate::proofs::AsciiLemmas::word_is_ascii, crate::proofs::WordLemmas::word_passes, crate::proofs::WordLemmas::word_within))]
+#[tactic(auto, unfolding(crate::specs::Statements::statement_at), using(crate::proofs::AsciiLemmas::ascii_words))]
 pub fn statement(
     scan: &mut Scanner<'_>,
     word: &[u8],

@@ -25,7 +25,7 @@ pub trait Machine: Drop {
     /// Makes one event happen.
     fn happen(&mut self, event: &Event) -> Answer;
 
-    /// Makes events happen one after the other, and writes the answer to each in its place.
+    /// Makes events happen one after the other, and writes the answer to each at its position.
     fn happen_all(&mut self, events: &[Event], replies: &mut [Answer])
         requires { length replies.old ≡ length events.now };
 
@@ -35,8 +35,8 @@ pub trait Machine: Drop {
     /// What there is to see of a job, if it is there.
     fn view(&self, job: u8) -> Option<JobView>;
 
-    /// The word at a place of a job.
-    fn word(&self, job: u8, place: u32) -> Option<Word>;
+    /// The word at an address of a job.
+    fn word(&self, job: u8, address: u32) -> Option<Word>;
 
     /// The requests of all jobs, in order of arrival.
     fn list_requests(&self, alloc: Global) -> Result<Vec<Listed<'_>>, AllocError>;
@@ -50,7 +50,7 @@ pub trait Machine: Drop {
     /// Whether the first job waits for the second.
     fn waits_for(&self, job: u8, other: u8) -> bool;
 
-    /// What a job is told of a key.
+    /// What the table answers a job about a key.
     fn status(&self, key: &Key, job: u8) -> Status;
 }
 
@@ -73,8 +73,8 @@ impl<L: LockTable, C: CoreStore> Machine for System<L, C> {
         self.job(job)
     }
 
-    fn word(&self, job: u8, place: u32) -> Option<Word> {
-        self.peek(job, place)
+    fn word(&self, job: u8, address: u32) -> Option<Word> {
+        self.peek(job, address)
     }
 
     fn list_requests(&self, alloc: Global) -> Result<Vec<Listed<'_>>, AllocError> {
@@ -101,10 +101,10 @@ impl<L: LockTable, C: CoreStore> Machine for System<L, C> {
 /// The requests of a table of locks.
 fn list_of<L: LockTable>(alloc: Global, locks: &L) -> Result<Vec<Listed<'_>>, AllocError> {
     let mut list = Vec::with_capacity(alloc, locks.len())?;
-    for place in 0..locks.len() {
+    for position in 0..locks.len() {
         list.push(Listed {
-            request: locks.request(place),
-            granted: locks.granted(place),
+            request: locks.request(position),
+            granted: locks.granted(position),
         })?;
     }
     Ok(list)

@@ -73,8 +73,8 @@ fn bare(cores: &mut PlainCore, most: u32) -> u32 {
         pc: Address::new(START),
         flags: NO_FLAGS,
     };
-    for (place, word) in LOOP.iter() {
-        let at = *place as usize;
+    for (address, word) in LOOP.iter() {
+        let at = *address as usize;
         if at < 16 {
             regs.ac[at] = Word::low_bits(*word);
         } else if at < words.len() {
@@ -125,8 +125,8 @@ fn begin<M: Machine>(machine: &mut M, image: &Image, jobs: u8) -> bool {
 /// The image of the loop.
 fn loop_image(alloc: Global) -> Result<Image, AllocError> {
     let mut words = Vec::with_capacity(alloc, LOOP.len())?;
-    for (place, word) in LOOP.iter() {
-        words.push((*place, Word::low_bits(*word)))?;
+    for (address, word) in LOOP.iter() {
+        words.push((*address, Word::low_bits(*word)))?;
     }
     Ok(Image {
         words,

@@ -8,9 +8,9 @@ use std::alloc::Global;
 use word36::JOBS;
 
 /// How much earlier wants of the key take of their pools.
-fn amount_before(list: &[Listed], place: usize, want: &Want) -> u64 {
+fn amount_before(list: &[Listed], position: usize, want: &Want) -> u64 {
     let mut amount = 0u64;
-    for i in 0..place.min(list.len()) {
+    for i in 0..position.min(list.len()) {
         let request = list[i].request;
         for earlier in request.wants.iter() {
             if earlier.key.is_same(&want.key)
@@ -29,8 +29,8 @@ pub fn is_of_one_group(v: &Want, w: &Want) -> bool {
 }
 
 /// Whether an earlier want of the key does not share it with this one.
-fn is_opposed(list: &[Listed], place: usize, want: &Want) -> bool {
-    for i in 0..place.min(list.len()) {
+fn is_opposed(list: &[Listed], position: usize, want: &Want) -> bool {
+    for i in 0..position.min(list.len()) {
         let request = list[i].request;
         for earlier in request.wants.iter() {
             if earlier.key.is_same(&want.key) && !is_of_one_group(earlier, want) {
@@ -41,21 +41,21 @@ fn is_opposed(list: &[Listed], place: usize, want: &Want) -> bool {
     false
 }
 
-/// Whether no request before a place stands in the way of a want.
-pub fn fits(list: &[Listed], place: usize, want: &Want) -> bool {
+/// Whether no request before a position stands in the way of a want.
+pub fn fits(list: &[Listed], position: usize, want: &Want) -> bool {
     match want.pool {
         Some(pool) => {
-            let taken = amount_before(list, place, want);
+            let taken = amount_before(list, position, want);
             taken.saturating_add(u64::from(pool.amount())) <= u64::from(pool.size())
         }
-        None => !is_opposed(list, place, want),
+        None => !is_opposed(list, position, want),
     }
 }
 
 /// Whether each want of a request fits behind the earlier ones.
-fn is_due(list: &[Listed], place: usize, request: &Request) -> bool {
+fn is_due(list: &[Listed], position: usize, request: &Request) -> bool {
     for want in request.wants.iter() {
-        if !fits(list, place, want) {
+        if !fits(list, position, want) {
             return false;
         }
     }
@@ -74,10 +74,10 @@ fn waits_for_queue<M: Machine>(machine: &M, job: u8) -> bool {
 /// job is not there.
 fn wrong_requests<M: Machine>(machine: &M, list: &[Listed]) -> u32 {
     let mut wrong = 0u32;
-    for place in 0..list.len() {
-        let request = list[place].request;
+    for position in 0..list.len() {
+        let request = list[position].request;
         let is_there = machine.view(request.job).is_some();
-        if !is_there || list[place].granted != is_due(list, place, request) {
+        if !is_there || list[position].granted != is_due(list, position, request) {
             wrong = wrong.saturating_add(1);
         }
     }
@@ -85,7 +85,7 @@ fn wrong_requests<M: Machine>(machine: &M, list: &[Listed]) -> u32 {
 }
 
 /// Counts the jobs that wait for the queue without a blocking request, or have one that is not
-/// granted and do not wait; and those of which it is told that they wait in a circle of one.
+/// granted and do not wait; and those that the machine says wait in a circle of one.
 fn wrong_jobs<M: Machine>(machine: &M) -> u32 {
     let mut wrong = 0u32;
     for job in 1..=JOBS {

@@ -48,8 +48,8 @@ impl fmt::Display for Found {
 fn drawn_image(alloc: Global, seed: u64) -> Result<Image, AllocError> {
     let mut generator = Generator::new(seed);
     let mut words = Vec::with_capacity(alloc, WORDS as usize)?;
-    for place in START..START + WORDS {
-        words.push((place, generator.word()))?;
+    for address in START..START + WORDS {
+        words.push((address, generator.word()))?;
     }
     Ok(Image {
         words,
@@ -121,10 +121,10 @@ fn differing_requests<A: Machine, B: Machine>(alloc: Global, a: &A, b: &B) -> u3
 
 /// Whether the looking calls tell the same of a job on two machines.
 fn is_same_job<A: Machine, B: Machine>(a: &A, b: &B, job: u8) -> bool {
-    let place = START + u32::from(job);
+    let address = START + u32::from(job);
     a.view(job) == b.view(job)
         && a.word(job, 0) == b.word(job, 0)
-        && a.word(job, place) == b.word(job, place)
+        && a.word(job, address) == b.word(job, address)
 }
 
 /// Two machines to which the same happens.

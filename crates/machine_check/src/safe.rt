@@ -14,8 +14,8 @@ const OF_ALL_ASKERS: u64 = 0o477777_777777;
 struct Placed<'a> {
     /// Whose it is.
     job: u8,
-    /// The place of its request.
-    place: usize,
+    /// The position of its request.
+    position: usize,
     /// Whether its request is granted.
     granted: bool,
     want: &'a Want,
@@ -53,12 +53,12 @@ fn are_rival_owners(earlier: &Placed, later: &Placed) -> bool {
 
 /// Whether the later of two wants of one key is owned, though the earlier one does not fit.
 fn overtakes(list: &[Listed], earlier: &Placed, later: &Placed) -> bool {
-    later.granted && !fits(list, earlier.place, earlier.want)
+    later.granted && !fits(list, earlier.position, earlier.want)
 }
 
 /// Whether the later of two wants of one key fits, though the earlier one does not.
 fn fits_behind(list: &[Listed], earlier: &Placed, later: &Placed) -> bool {
-    fits(list, later.place, later.want) && !fits(list, earlier.place, earlier.want)
+    fits(list, later.position, later.want) && !fits(list, earlier.position, earlier.want)
 }
 
 /// Whether two wants cannot stand in the list in this order.
@@ -74,16 +74,16 @@ fn is_wrong_pair(list: &[Listed], earlier: &Placed, later: &Placed) -> bool {
 /// Counts the wants before this one, the `n`th of its request, that cannot stand there.
 fn wrong_before(list: &[Listed], later: &Placed, n: usize) -> u32 {
     let mut wrong = 0u32;
-    for place in 0..list.len() {
-        let request = list[place].request;
+    for position in 0..list.len() {
+        let request = list[position].request;
         for (m, want) in request.wants.iter().enumerate() {
             let earlier = Placed {
                 job: request.job,
-                place,
-                granted: list[place].granted,
+                position,
+                granted: list[position].granted,
                 want,
             };
-            let is_earlier = place < later.place || (place == later.place && m < n);
+            let is_earlier = position < later.position || (position == later.position && m < n);
             if is_earlier && is_wrong_pair(list, &earlier, later) {
                 wrong = wrong.saturating_add(1);
             }
@@ -95,8 +95,8 @@ fn wrong_before(list: &[Listed], later: &Placed, n: usize) -> u32 {
 /// How much the owners of a want's key have of its pool.
 fn owned_amount(list: &[Listed], want: &Want) -> u64 {
     let mut amount = 0u64;
-    for place in 0..list.len() {
-        let listed = list[place];
+    for position in 0..list.len() {
+        let listed = list[position];
         let request = listed.request;
         for other in request.wants.iter() {
             if listed.granted
@@ -119,21 +119,21 @@ fn is_overdrawn(list: &[Listed], want: &Want) -> bool {
 }
 
 /// Whether a request by which its job waits is not the job's latest.
-fn is_left_behind(list: &[Listed], place: usize, request: &Request) -> bool {
+fn is_left_behind(list: &[Listed], position: usize, request: &Request) -> bool {
     let mut has_later = false;
-    for later in place..list.len() {
-        has_later = has_later || (later > place && list[later].request.job == request.job);
+    for later in position..list.len() {
+        has_later = has_later || (later > position && list[later].request.job == request.job);
     }
     request.kind == EnqueueKind::Blocking && has_later
 }
 
 /// Counts what is wrong with the wants of a request.
-fn wrong_wants(list: &[Listed], place: usize, request: &Request, granted: bool) -> u32 {
+fn wrong_wants(list: &[Listed], position: usize, request: &Request, granted: bool) -> u32 {
     let mut wrong = 0u32;
     for (n, want) in request.wants.iter().enumerate() {
         let placed = Placed {
             job: request.job,
-            place,
+            position,
             granted,
             want,
         };
@@ -148,18 +148,18 @@ fn wrong_wants(list: &[Listed], place: usize, request: &Request, granted: bool) 
 /// Counts what of the list is not safe.
 pub fn count_unsafe(list: &[Listed]) -> u32 {
     let mut wrong = 0u32;
-    for place in 0..list.len() {
-        let request = list[place].request;
-        let granted = list[place].granted;
-        if !granted && is_left_behind(list, place, request) {
+    for position in 0..list.len() {
+        let request = list[position].request;
+        let granted = list[position].granted;
+        if !granted && is_left_behind(list, position, request) {
             wrong = wrong.saturating_add(1);
         }
-        wrong = wrong.saturating_add(wrong_wants(list, place, request, granted));
+        wrong = wrong.saturating_add(wrong_wants(list, position, request, granted));
     }
     wrong
 }
 
-/// Whether all jobs are told the same of a want's key, but for whether they own it or wait for it, and its
+/// Whether all jobs are answered the same about a want's key, but for whether they own it or wait for it, and its
 /// own job that it owns the key where the request is granted and waits for it where not.
 fn is_told_rightly<M: Machine>(machine: &M, listed: &Listed, want: &Want) -> bool {
     let key = &want.key;
@@ -175,7 +175,7 @@ fn is_told_rightly<M: Machine>(machine: &M, listed: &Listed, want: &Want) -> boo
     own.owns == listed.granted && own.waits != listed.granted
 }
 
-/// Counts the wants of which jobs are told what is not so, and one more where there are more requests than a table
+/// Counts the wants about which jobs are answered what is not so, and one more where there are more requests than a table
 /// holds.
 pub fn count_told_wrongly<M: Machine>(machine: &M, list: &[Listed]) -> u32 {
     let mut wrong = if list.len() > machine.most_requests() {

@@ -73,3 +73,6 @@ pub named_four : (text : List ℕ) (n : ℕ) → n + 3 < length text → list_al
 named_four text n within named a b c d =
     let on : n + 4 ≡ (n + 3) + 1 = omega arith in
     rw on (named_one text (n + 3) within (named_three text n (omega (arith, within)) named a b c) d)
+
+-- the names that commands give a lock, of one to four characters and more
+pub ruleset names_given = (named_one, named_two, named_three, named_four)

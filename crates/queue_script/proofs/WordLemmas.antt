@@ -51,3 +51,6 @@ words_status_at (v ∷ w ∷ x ∷ []) h a b c d e = absurd (omega arith)
 words_status_at (v ∷ w ∷ x ∷ y ∷ []) h a b c d e = absurd (omega arith)
 words_status_at (v ∷ w ∷ x ∷ y ∷ z ∷ items) h a b c d e =
     rw (a, b, c, d, e) (ap (λ l. status_of_items (parts 32 l)) (take_all (length (v ∷ w ∷ x ∷ y ∷ z ∷ items) - 5) items (omega arith)) ∙ words-status items)
+
+-- the first words of commands, each by its characters
+pub ruleset command_words = (words_enqueue_at, words_dequeue_at, words_status_at)

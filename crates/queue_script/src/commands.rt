@@ -196,7 +196,7 @@ fn read_items<'a>(room: &'a mut CallRoom, mut items: Parts<'_>) -> Option<Comman
 }
 
 /// The command of a line. The three names that most lines begin with are tried first.
-#[tactic(auto, using(crate::proofs::WordLemmas::words_enqueue_at, crate::proofs::WordLemmas::words_dequeue_at, crate::proofs::WordLemmas::words_status_at))]
+#[tactic(auto, using(crate::proofs::WordLemmas::command_words))]
 fn read_line<'a>(room: &'a mut CallRoom, line: &[u8]) -> Option<Command<'a>>
     ensures { owned_command result ≡ command_of_items (parts 32 line.now) }
 {

@@ -83,7 +83,7 @@ pub fn is_name_character(character: u8) -> bool
 
 /// How many characters at the front of a text can belong to a name. They are tested four at a time, while there are four.
 #[inline(always)]
-#[tactic(auto, using(crate::proofs::LockLemmas::named_one, crate::proofs::LockLemmas::named_two, crate::proofs::LockLemmas::named_three, crate::proofs::LockLemmas::named_four))]
+#[tactic(auto, using(crate::proofs::LockLemmas::names_given))]
 fn name_length(text: &[u8]) -> usize
     ensures within { result ≤ length text.now }
     ensures named { list_all is_name_character (take result text.now) ≡ true }

@@ -98,7 +98,7 @@ impl Pair {
         self.happens(&ROUND[0]) && self.happens(&ROUND[1])
     }
 
-    /// Whether the registers and the core of a job of so many blocks are the same, and the place behind
+    /// Whether the registers and the core of a job of so many blocks are the same, and the address behind
     /// them is legal on neither.
     fn has_same_words(&self, job: u8, blocks: u32) -> bool {
         for a in 0..=blocks.min(BLOCKS) * 1024 {

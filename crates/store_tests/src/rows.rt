@@ -41,9 +41,9 @@ pub enum Row {
     Rounds(u32, u32),
     /// A job's PC, why it is stopped, and the wait that holds.
     Job(u8, u32, Option<Stop>, Wait),
-    /// The word at a place of a job; `None` where the place is not legal.
+    /// The word at an address of a job; `None` where the address is not legal.
     Word(u8, u32, Option<u64>),
-    /// All words of a job from a place on and below another are this one.
+    /// All words of a job from an address on and below another are this one.
     All(u8, u32, u32, u64),
 }
 
@@ -170,21 +170,21 @@ fn is_at<C: CoreStore>(
     }
 }
 
-/// Whether the word at a place of a job is this one, or there is none.
+/// Whether the word at an address of a job is this one, or there is none.
 fn is_word<C: CoreStore>(
     system: &System<PlainTable<MOST_REQUESTS>, C>,
     number: u8,
-    place: u32,
+    address: u32,
     word: Option<u64>,
 ) -> bool {
-    match (system.peek(number, place), word) {
+    match (system.peek(number, address), word) {
         (Some(there), Some(word)) => there.number() == word,
         (None, None) => true,
         _ => false,
     }
 }
 
-/// Whether all words of a job from a place on and below another are this one.
+/// Whether all words of a job from an address on and below another are this one.
 fn are_words<C: CoreStore>(
     system: &System<PlainTable<MOST_REQUESTS>, C>,
     number: u8,
@@ -192,8 +192,8 @@ fn are_words<C: CoreStore>(
     until: u32,
     word: u64,
 ) -> bool {
-    for place in from..until {
-        if !is_word(system, number, place, Some(word)) {
+    for address in from..until {
+        if !is_word(system, number, address, Some(word)) {
             return false;
         }
     }
@@ -218,7 +218,7 @@ impl Row {
             Row::Turns(numbers) => turns(system, numbers),
             Row::Rounds(most, ran) => system.steps(*most, true) == *ran,
             Row::Job(number, pc, stop, wait) => is_at(system, *number, *pc, *stop, *wait),
-            Row::Word(number, place, word) => is_word(system, *number, *place, *word),
+            Row::Word(number, address, word) => is_word(system, *number, *address, *word),
             Row::All(number, from, until, word) => {
                 are_words(system, *number, *from, *until, *word)
             }
