@@ -497,7 +497,7 @@ impl JobTable {
     }
 
     /// Gives a number a job.
-    pub fn place(&mut self, number: u8, job: Job)
+    pub fn put(&mut self, number: u8, job: Job)
         requires { number ≤ JOBS }
         ensures { self.new ≡ with_job self.old number (Some job) }
     {

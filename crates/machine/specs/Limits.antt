@@ -8,6 +8,7 @@ use Rattle.job_sched.specs.Limits.{at_error_return}
 use Rattle.job_sched.specs.Tables.{job_at}
 use Rattle.job_sched.specs.declared.job.Job.{Job}
 use Rattle.job_sched.specs.declared.job.Wait.TheVariants.{None as Nothing, Queue}
+use Rattle.uuo_calls.specs.CallState.{ac_of}
 use Rattle.uuo_calls.specs.Performed.{World}
 use Rattle.machine.specs.Alone.{Spares}
 use Rattle.machine.specs.Machine.{S, after, ticked}
@@ -37,6 +38,14 @@ pub record LimitCounts (s : S) (n : ℕ) (j : Job) (limit ac : ℕ) : Type 0 whe
 abbrev pub LimitsCount : S → Type 0
 LimitsCount s = (n limit ac : ℕ) (j : Job) → IsInWait s.world n j limit ac → LimitCounts s n j limit ac
 
+-- job n has this word in an accumulator
+abbrev pub Holds : World → ℕ → ℕ → ℕ → Type 0
+Holds w n ac word = (j : Job) × (job_at w.table.jobs n ≡ Some j) × (ac_of j ac ≡ word)
+
+-- at the last tick of its limit the accumulator of the call gets 21 octal, the code of a wait that has timed out
+abbrev pub LimitsLeaveTheirCode : S → Type 0
+LimitsLeaveTheirCode s = (n ac : ℕ) (j : Job) → IsInWait s.world n j 1 ac → Holds (ticked s).state.world n ac 0o21
+
 -- the limit of a job that does not wait any more does not count
 abbrev pub GrantsStopLimits : S → Type 0
 GrantsStopLimits s =
@@ -62,10 +71,12 @@ pub record IsGranted (w : World) (n : ℕ) (before : Job) (limit ac ticks : ℕ)
   pub counted : left + ticks ≡ limit
   pub over : is_waiting_job w.requests n ≡ false
 
--- after as many ticks as its limit the call of job n is refused, and the job has no request by which it waits
+-- after as many ticks as its limit the call of job n is refused, with code 21 octal in its accumulator, and the job has no request
+-- by which it waits
 pub record IsTimedOut (w : World) (n : ℕ) (before : Job) (limit ac ticks : ℕ) : Type 0 where
   pub job : Job
   pub there : job_at w.table.jobs n ≡ Some job
+  pub code : ac_of job ac ≡ 0o21
   pub regs : job.regs ≡ (timed_out ac before).regs
   pub wait : job.wait ≡ Nothing
   pub counted : ticks ≡ limit

@@ -11,7 +11,7 @@ use Rattle.job_sched.specs.Limits.{is_queue}
 use Rattle.job_sched.specs.Tables.{job_at}
 use Rattle.job_sched.specs.declared.job.Job.{Job}
 use Rattle.job_sched.specs.declared.job.Wait.{Wait}
-use Rattle.job_sched.specs.declared.job.Wait.TheVariants.{None as Nothing}
+use Rattle.job_sched.specs.declared.job.Wait.TheVariants.{None as Nothing, Queue}
 use Rattle.machine.specs.Machine.{S}
 
 -- what the job of a slot waits for
@@ -52,10 +52,16 @@ LinesApart jobs = (a b line : ℕ) → line_of (job_at jobs a) ≡ Some line →
 abbrev pub LinesBelow : List (Option Job) → Type 0
 LinesBelow jobs = (a line : ℕ) → line_of (job_at jobs a) ≡ Some line → line < LINES
 
--- a job's PC and its start are addresses
-abbrev pub Placed : Option Job → Type 0
-Placed (Some j) = (j.regs.pc < 2 ^ 18) × (j.start < 2 ^ 18)
-Placed None = ⊤
+-- the call by which a job waits for a grant has one of the sixteen accumulators
+abbrev pub HasAccumulator : Wait → Type 0
+HasAccumulator (Queue limit ac) = ac < 16
+HasAccumulator _ = ⊤
+
+-- the numbers of a job are in their ranges: its PC and its start are addresses, it has sixteen accumulators, and the call by which
+-- it waits for a grant has one of these
+abbrev pub InRange : Option Job → Type 0
+InRange (Some j) = (j.regs.pc < 2 ^ 18) × (j.start < 2 ^ 18) × (length j.regs.ac ≡ 16) × HasAccumulator j.wait
+InRange None = ⊤
 
 -- how many words all jobs and the free blocks have
 abbrev pub all_words : Cores → ℕ
@@ -72,4 +78,4 @@ pub record Safe (s : S) : Type 0 where
   -- each job's line is there
   pub rings : length s.world.lines ≡ LINES
   pub numbers : LinesBelow s.world.table.jobs
-  pub placed : (n : ℕ) → Placed (job_at s.world.table.jobs n)
+  pub ranges : (n : ℕ) → InRange (job_at s.world.table.jobs n)

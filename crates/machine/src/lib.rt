@@ -8,6 +8,6 @@ mod view;
 
 pub use config::Config;
 pub use event::{Answer, Event, RefusedEvent};
-pub use sizes::{INTERRUPT_CHARACTER, LOGIN_QUOTA, MOST_QUANTUM, VECTOR_WORDS};
+pub use sizes::{INTERRUPT_CHARACTER, LOGIN_QUOTA, MOST_QUANTUM, MOST_TAKES, VECTOR_WORDS};
 pub use uuo_calls::JBREL;
 pub use view::JobView;

@@ -1,4 +1,4 @@
--- What there is to see of the jobs after a word was put at a place of one.
+-- What there is to see of the jobs after a word was stored at an address of one.
 use Rattle.std.proofs.Common.{◌≡◌, ◌≢◌, ◌∙◌, ◌⊎◌, sym, ap, subst, ℕ, zero, suc, nat_lt, Bool, true, false, cond, List, []}
 use Rattle.std.proofs.Common.{◌∷◌, slice_set, slice_get, Option, Some, None, is_some, inl, inr, refl}
 use Rattle.std.proofs.lemmas.Bool.{both_ways, cases_eq}
@@ -34,7 +34,7 @@ set-none [] a word h = refl
 set-none (x ∷ l) zero word h = absurd (both_ways true h refl)
 set-none (x ∷ l) (suc a) word h = ap (λ k. x ∷ k) (set-none l a word h)
 
--- the memory of one job, by whether the place is a register's
+-- the memory of one job, by whether the address is a register's
 there-by : (low : Bool) (ac core : List ℕ) (a word : ℕ) → is_some (cond low (slice_get ac a) (slice_get core a)) ≡ true
     → cond low (slice_get (cond low (slice_set ac a word) ac) a) (slice_get (cond low core (slice_set core a word)) a) ≡ Some word
 there-by true ac core a word h = get-set ac a word h
@@ -101,9 +101,9 @@ other-job s n a word j m b ne =
     ap (λ (o : Option Job). place_of w m b o) job ∙ same-core w s.world m b (job_at s.world.table.jobs m) core
 
 -- another word of the job
-other-place : (s : S) (n a word : ℕ) (j : Job) (b : ℕ) → job_at s.world.table.jobs n ≡ Some j → Safe s → b ≢ a
+other-address : (s : S) (n a word : ℕ) (j : Job) (b : ℕ) → job_at s.world.table.jobs n ≡ Some j → Safe s → b ≢ a
     → word_in (with_word_of s.world n a word (Some j)) n b ≡ word_in s.world n b
-other-place s n a word j b is h ne =
+other-address s n a word j b is h ne =
     word-now s n a b word j is h
     ∙ memory-other j.regs.ac (core_of s.world.cores n) a b word ne
     ∙ sym (ap (λ (o : Option Job). place_of s.world n b o) is)
@@ -113,14 +113,14 @@ others-of : (s : S) (n a word : ℕ) (o : Option Job) (m b : ℕ) → job_at s.w
 others-of s n a word None m b is h other = refl
 others-of s n a word (Some j) m b is h (inl ne) = other-job s n a word j m b ne
 others-of s n a word (Some j) m b is h (inr ne) = elim (cases_eq m n) [
-  | inl same ↦ subst (λ (k : ℕ). word_in (with_word_of s.world n a word (Some j)) k b ≡ word_in s.world k b) (sym same) (other-place s n a word j b is h ne)
+  | inl same ↦ subst (λ (k : ℕ). word_in (with_word_of s.world n a word (Some j)) k b ≡ word_in s.world k b) (sym same) (other-address s n a word j b is h ne)
   | inr other ↦ other-job s n a word j m b other
 ]
 
 pub other_words_stay : (s : S) (n a word m b : ℕ) → Safe s → (m ≢ n) ⊎ (b ≢ a) → word_in (deposited s n a word).world m b ≡ word_in s.world m b
 other_words_stay s n a word m b h other = others-of s n a word (job_at s.world.table.jobs n) m b refl h other
 
--- a place that is not legal
+-- an address that is not legal
 kept-of : (w : World) (n a word : ℕ) (o : Option Job) → job_at w.table.jobs n ≡ o → is_some (place_of w n a o) ≡ false → with_word_of w n a word o ≡ w
 kept-of w n a word None is none = refl
 kept-of w n a word (Some j) is none =

@@ -12,22 +12,22 @@ use Rattle.uuo_calls.specs.CallState.{with_pc}
 use Rattle.machine.specs.declared.event.Event.TheVariants.{Start}
 use Rattle.machine.specs.Deposits.{deposited, is_done, placed, started_at, with_register, with_word_of}
 use Rattle.machine.specs.Machine.{S, started}
-use Rattle.machine.specs.Safe.{Placed, Safe, line_of, wait_of}
+use Rattle.machine.specs.Safe.{InRange, Safe, line_of, wait_of}
 use Rattle.monitor_laws.proofs.Housing.{housed-core, housed-job, is_job, there-set}
 use Rattle.monitor_laws.proofs.Keeping.{apart-kept, below-kept, lines-set, words-core}
-use Rattle.monitor_laws.proofs.Placing.{placed-set}
+use Rattle.monitor_laws.proofs.Ranges.{length-ac_with, ranges-set}
 use Rattle.monitor_laws.proofs.Queueing.{queued-going_on}
 use Rattle.progress_laws.specs.Kept.{IsSound}
 use Rattle.progress_laws.proofs.Kept.{sound_is_kept}
 
--- a list with its own at a place
+-- a list with its own at an index
 pub set-own : {A : Type 0} (l : List A) (n : ℕ) (d : A) → slice_set l n (slice_index_or l n d) ≡ l
 set-own [] n d = refl
 set-own (x ∷ l) zero d = refl
 set-own (x ∷ l) (suc n) d = ap (λ k. x ∷ k) (set-own l n d)
 
 -- a job whose line and wait stay
-sound-job : (s : S) (n : ℕ) (j k : Job) → job_at s.world.table.jobs n ≡ Some j → k.line ≡ j.line → k.wait ≡ j.wait → Placed (Some k) → IsSound s
+sound-job : (s : S) (n : ℕ) (j k : Job) → job_at s.world.table.jobs n ≡ Some j → k.line ≡ j.line → k.wait ≡ j.wait → InRange (Some k) → IsSound s
     → IsSound (record s { world = record s.world { table = with_job s.world.table n (Some k) } })
 sound-job s n j k is line wait fits h =
     let jobs = s.world.table.jobs in
@@ -42,7 +42,7 @@ sound-job s n j k is line wait fits h =
         most = h.safe.most;
         rings = h.safe.rings;
         numbers = below-kept jobs _ keeps h.safe.numbers;
-        placed = placed-set jobs n (Some k) fits h.safe.placed;
+        ranges = ranges-set jobs n (Some k) fits h.safe.ranges;
       };
       time = record {
         some_ticks = h.time.some_ticks;
@@ -53,7 +53,7 @@ sound-job s n j k is line wait fits h =
       low = λ m e. h.low m (sym (there-set jobs n m k there) ∙ e);
     }
 
--- the place of a job's core
+-- the slot of a job's core
 pub core-below : (s : S) (n : ℕ) → is_some (job_at s.world.table.jobs n) ≡ true → Safe s → n < length s.world.cores.cores
 core-below s n there h =
     let number = is_job s.world.table.jobs s.world.cores n h.housed there in
@@ -71,7 +71,7 @@ sound-core s n words there long h = record {
     most = h.safe.most;
     rings = h.safe.rings;
     numbers = h.safe.numbers;
-    placed = h.safe.placed;
+    ranges = h.safe.ranges;
   };
   time = record { some_ticks = h.time.some_ticks; most = h.time.most; there = h.time.there };
   well = h.well;
@@ -79,6 +79,9 @@ sound-core s n words there long h = record {
 }
 
 -- a word
+with-register : (j : Job) (a word : ℕ) → InRange (Some j) → InRange (Some (with_register j a word))
+with-register j a word h = (h.0, h.1, length-ac_with j.regs.ac a word ∙ h.2, h.3)
+
 sound-word : (s : S) (n a word : ℕ) (o : Option Job) → job_at s.world.table.jobs n ≡ o →
     IsSound s → IsSound (record s { world = with_word_of s.world n a word o })
 sound-word s n a word None is h = h
@@ -87,7 +90,7 @@ sound-word s n a word (Some j) is h =
     sound-core (record s { world = record s.world { table = with_job s.world.table n (Some (with_register j a word)) } }) n
     (core_with (core_of s.world.cores n) a word)
     (there-set s.world.table.jobs n n (with_register j a word) there ∙ there) (length-core_with (core_of s.world.cores n) a word)
-    (sound-job s n j (with_register j a word) is refl refl (subst Placed is (h.safe.placed n)) h)
+    (sound-job s n j (with_register j a word) is refl refl (with-register j a word (subst InRange is (h.safe.ranges n))) h)
 
 pub sound_deposited : (s : S) (n a word : ℕ) → IsSound s → IsSound (deposited s n a word)
 sound_deposited s n a word h = sound-word s n a word (job_at s.world.table.jobs n) refl h
@@ -95,7 +98,9 @@ sound_deposited s n a word h = sound-word s n a word (job_at s.world.table.jobs 
 -- a PC
 sound-pc : (s : S) (n a : ℕ) (o : Option Job) → job_at s.world.table.jobs n ≡ o → a < 2 ^ 18 → IsSound s
     → IsSound (record s { world = record s.world { table = with_job s.world.table n (option_map (λ j. with_pc j a) o) } })
-sound-pc s n a (Some j) is low h = sound-job s n j (with_pc j a) is refl refl (low, (subst Placed is (h.safe.placed n)).1) h
+sound-pc s n a (Some j) is low h =
+    let ranges : InRange (Some j) = subst InRange is (h.safe.ranges n) in
+    sound-job s n j (with_pc j a) is refl refl (low, ranges.1, ranges.2, ranges.3) h
 sound-pc s n a None is low h =
     let same : slice_set s.world.table.jobs n None ≡ s.world.table.jobs = ap (λ (o : Option Job). slice_set s.world.table.jobs n o) (sym is)
     ∙ set-own s.world.table.jobs n None in
@@ -104,7 +109,7 @@ sound-pc s n a None is low h =
 sound-placed : (s : S) (n a : ℕ) → a < 2 ^ 18 → IsSound s → IsSound (placed s n a)
 sound-placed s n a low h = sound-pc s n a (job_at s.world.table.jobs n) refl low h
 
--- a start at a place
+-- a start at an address
 pub sound_started_at : (s : S) (n a : ℕ) → a < 2 ^ 18 → IsSound s → IsSound (started_at s n a).state
 sound_started_at s n a low h =
     let began : IsSound (started s n).state = sound_is_kept s (Start n) h in

@@ -403,7 +403,7 @@ impl<L: LockTable, C: CoreStore> Parts<L, C> {
             Ok(regs) => {
                 self.world
                     .table
-                    .place(n, Job::new(line, regs, start, first_quota(L::REQS)));
+                    .put(n, Job::new(line, regs, start, first_quota(L::REQS)));
                 Answer::JobNumber(n)
             }
             Err(_) => Answer::Refused(RefusedEvent::NoCore),

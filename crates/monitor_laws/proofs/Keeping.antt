@@ -41,10 +41,10 @@ use Rattle.uuo_calls.specs.StatusRow.{stored_or_refused, answers_at, with_room, 
 use Rattle.ka_cpu.specs.Memory.{word_below}
 use Rattle.uuo_calls.specs.TerminalRows.{JobLines, JobInput, put_text, text_from, low_character, has_input, stored_input, no_input, input_called, skipping_if}
 use Rattle.machine.specs.Machine.{with_turn, awake}
-use Rattle.machine.specs.Safe.{Placed, Housed, line_of, LinesApart, LinesBelow, all_words}
+use Rattle.machine.specs.Safe.{InRange, Housed, line_of, LinesApart, LinesBelow, all_words}
 use Rattle.machine.specs.Turns.{Turn, turn_of, turned, due, concluded, done, notified_at, interrupted_at}
 use Rattle.monitor_laws.proofs.Housing.{SameJobs, there-below, is_job}
-use Rattle.monitor_laws.proofs.Placing.{placed-set, fits-row, fits-turned}
+use Rattle.monitor_laws.proofs.Ranges.{ranges-set, fits-awake, fits-row, fits-turned}
 use Rattle.ka_cpu.proofs.ExecLaws.{by_test, length-exec}
 use Rattle.monitor_laws.proofs.Turning.{length-noted}
 use Rattle.monitor_laws.proofs.Enquiring.{by_enqc}
@@ -153,10 +153,10 @@ pub record Kept (v w : World) : Type 0 where
   pub lines : KeepsLines v.table.jobs w.table.jobs
   pub words : all_words w.cores ≡ all_words v.cores
   pub rings : length w.lines ≡ length v.lines
-  pub placed : ((n : ℕ) → Placed (job_at v.table.jobs n)) → (n : ℕ) → Placed (job_at w.table.jobs n)
+  pub ranges : ((n : ℕ) → InRange (job_at v.table.jobs n)) → (n : ℕ) → InRange (job_at w.table.jobs n)
 
 pub kept-refl : (w : World) → Kept w w
-kept-refl w = record { lines = λ k line e. e; words = refl; rings = refl; placed = λ p. p }
+kept-refl w = record { lines = λ k line e. e; words = refl; rings = refl; ranges = λ p. p }
 
 -- CORE
 words-grown : (cores new : Cores) (n : ℕ) (asks : Option ℕ) → IsStore cores → IsJob n → grown cores n asks ≡ Some new → all_words new ≡ all_words cores
@@ -335,15 +335,15 @@ rings-row Clrbfo time n ac e a = length-set a.lines a.job.line _
 rings-row (Skpin unit) time n ac e a = refl
 rings-row Unlisted time n ac e a = refl
 
-pub kept-row : (service : Service) (w : World) (time n ac e : ℕ) (j : Job) → job_at w.table.jobs n ≡ Some j → is_some (job_at w.table.jobs n) ≡ true
+pub kept-row : (service : Service) (w : World) (time n ac e : ℕ) (j : Job) → ac < 16 → job_at w.table.jobs n ≡ Some j → is_some (job_at w.table.jobs n) ≡ true
     → Housed w.table.jobs w.cores → Kept w (with_around w n (row_of service time n ac e (around w j)))
-kept-row service w time n ac e j is there h = record {
+kept-row service w time n ac e j low is there h = record {
   lines =
       lines-set w.table.jobs n (row_of service time n ac e (around w j)).job there
       (ap line_of is ∙ ap Some (sym (line-row service time n ac e (around w j))));
   words = words-row service time n ac e (around w j) h.store (is_job w.table.jobs w.cores n h there);
   rings = rings-row service time n ac e (around w j);
-  placed = λ p. placed-set w.table.jobs n _ (fits-row service time n ac e (around w j) (subst Placed is (p n))) p;
+  ranges = λ p. ranges-set w.table.jobs n _ (fits-row service time n ac e (around w j) low (subst InRange is (p n))) p;
 }
 
 -- a call that may take its job away
@@ -356,7 +356,7 @@ kept-left ending.Gone v w n there h k = record {
   lines = λ m line e. k.lines m line (lines-gone w.table.jobs n there m line e);
   words = words-given w.cores n h.store (is_job w.table.jobs w.cores n h there) ∙ k.words;
   rings = k.rings;
-  placed = λ p. placed-set w.table.jobs n None tt (k.placed p);
+  ranges = λ p. ranges-set w.table.jobs n None tt (k.ranges p);
 }
 
 -- a turn
@@ -398,7 +398,7 @@ kept-turned w n j is there h =
           (ap line_of is ∙ ap Some (sym (line-turned n (awake j) w.cores w.requests (due j.interrupts (pending w.requests n)))));
       words = words-turned n (awake j) w.cores w.requests (due j.interrupts (pending w.requests n)) (omega (arith, h.store.jobs, number.1));
       rings = refl;
-      placed =
-          λ p. placed-set w.table.jobs n _
-          (fits-turned n (awake j) w.cores w.requests (due j.interrupts (pending w.requests n)) (subst Placed is (p n))) p;
+      ranges =
+          λ p. ranges-set w.table.jobs n _
+          (fits-turned n (awake j) w.cores w.requests (due j.interrupts (pending w.requests n)) (fits-awake j (subst InRange is (p n)))) p;
     }

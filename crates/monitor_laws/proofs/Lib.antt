@@ -3,7 +3,7 @@ pub mod Housing
 pub mod Queueing
 pub mod Stored
 pub mod Enquiring
-pub mod Placing
+pub mod Ranges
 pub mod Keeping
 pub mod Safety
 pub mod Waiting

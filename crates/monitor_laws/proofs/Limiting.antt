@@ -1,5 +1,5 @@
 -- A wait with a limit ends in time.
-use Rattle.std.proofs.Common.{◌≡◌, ◌≢◌, ◌≤◌, ◌+◌, ◌-◌, ◌∙◌, sym, ap, subst, ℕ, zero, suc, ◌==◌, nat_le, Bool, true, false, cond, List, []}
+use Rattle.std.proofs.Common.{◌≡◌, ◌≢◌, ◌<◌, ◌≤◌, ◌+◌, ◌-◌, ◌∙◌, sym, ap, subst, ℕ, zero, suc, ◌==◌, nat_le, Bool, true, false, cond, List, []}
 use Rattle.std.proofs.Common.{◌∷◌, length, take, Option, Some, None, Result, Ok, Err, is_some, inl, inr, refl, arith}
 use Rattle.std.proofs.lemmas.Bool.{and_from, both_ways, cases_eq, eq-eqb, eqb-true, false_from_ne_true}
 use Rattle.std.proofs.lemmas.Bool.Decides.{nat_tests}
@@ -22,15 +22,17 @@ use Rattle.job_sched.specs.declared.job.Wait.TheVariants.{Queue}
 use Rattle.job_sched.specs.declared.job_error.JobError.{JobError}
 use Rattle.job_sched.proofs.Limits.{job-limited, limited-none}
 use Rattle.ka_cpu.specs.declared.registers.Regs.{Regs}
+use Rattle.uuo_calls.specs.CallState.{ac_of}
 use Rattle.uuo_calls.specs.Performed.{World}
 use Rattle.machine.specs.declared.event.Event.{Event}
 use Rattle.machine.specs.declared.event.Event.TheVariants.{Step, Tick, Typed, Take, Login, Start, Continue, Kill, Restart}
 use Rattle.machine.specs.declared.sizes.TheConstants.{INTERRUPT_CHARACTER}
 use Rattle.machine.specs.Alone.{Spares, is_ran, spares}
 use Rattle.machine.specs.Images.{blocks_for, image_top}
-use Rattle.machine.specs.Limits.{GrantsStopLimits, HasEnded, IsInWait, LimitsAreKept, LimitsCount, is_tick, ticks_in, timed_out}
+use Rattle.machine.specs.Limits.{GrantsStopLimits, HasEnded, IsInWait, LimitsAreKept, LimitsCount, LimitsLeaveTheirCode}
+use Rattle.machine.specs.Limits.{is_tick, ticks_in, timed_out}
 use Rattle.machine.specs.Machine.{S, Made, admitted, continued, examined, happens, killed, logged_in, made_if, started, stepped, taken, ticked, typed}
-use Rattle.machine.specs.Safe.{Safe, line_of}
+use Rattle.machine.specs.Safe.{HasAccumulator, InRange, Safe, line_of}
 use Rattle.ka_cpu.proofs.ExecLaws.{by_test}
 use Rattle.monitor_laws.proofs.Housing.{at-mapped, at-ticked, there-below}
 use Rattle.monitor_laws.proofs.Rounding.{one_if}
@@ -71,6 +73,19 @@ counts s n limit ac j w =
           ∙ eq-eqb limit 1 last));
       endless = λ none. after-tick s n limit ac j true w.there w.wait w.holds ∙ ap Some (limited-none true j (ap limit_of w.wait ∙ none));
     }
+
+-- the accumulator of the call has the code
+late-code : (j : Job) (ac : ℕ) → ac < length j.regs.ac → ac_of (timed_out ac j) ac ≡ 0o21
+late-code j ac low = get_or-set_same j.regs.ac ac 0o21 0 low
+
+late-job : (s : S) (n limit ac : ℕ) (j : Job) → Safe s → IsInWait s.world n j limit ac → ac_of (timed_out ac j) ac ≡ 0o21
+late-job s n limit ac j h w =
+    let ranges : InRange (Some j) = subst InRange w.there (h.ranges n) in
+    let low : ac < 16 = subst HasAccumulator w.wait ranges.3 in
+    late-code j ac (subst (λ k. ac < k) (sym ranges.2) low)
+
+pub leave_their_code : (s : S) → Safe s → LimitsLeaveTheirCode s
+leave_their_code s h n ac j w = (timed_out ac j, (counts s n 1 ac j w).refused refl, late-job s n 1 ac j h w)
 
 pub grants_stop : (s : S) → GrantsStopLimits s
 grants_stop s n limit ac j there wait over = after-tick s n limit ac j false there wait over
@@ -211,6 +226,7 @@ shifted s e es n j k limit less ac i same fewer (inl g) = inl (record {
 shifted s e es n j k limit less ac i same fewer (inr t) = inr (record {
   job = t.job;
   there = t.there;
+  code = t.code;
   regs = t.regs ∙ ap (λ (g : Regs). (timed_out ac (record j { regs = g })).regs) same;
   wait = t.wait;
   counted = omega (arith, t.counted, fewer, ticks-cons e (take i es));
@@ -252,15 +268,16 @@ by-other s e es n limit ac j h w spared other some enough rest =
     goes-on s e es n limit limit ac j l.job l.there l.regs (l.wait ∙ w.wait) some (omega (arith, none)) enough rest
     (is_waiting_job (happens s e).state.world.requests n) refl
 
-by-tick : (s : S) (es : List Event) (n limit ac : ℕ) (j : Job) → IsInWait s.world n j limit ac → 1 ≤ limit → limit ≤ ticks_in (Tick ∷ es)
+by-tick : (s : S) (es : List Event) (n limit ac : ℕ) (j : Job) → Safe s → IsInWait s.world n j limit ac → 1 ≤ limit → limit ≤ ticks_in (Tick ∷ es)
     → Rest (happens s Tick).state es n → (i : ℕ) × HasEnded s (Tick ∷ es) n j limit ac i
-by-tick s es n limit ac j w some enough rest = elim (cases_eq limit 1) [
+by-tick s es n limit ac j h w some enough rest = elim (cases_eq limit 1) [
   | inl last ↦
       let c = counts s n limit ac j w in (
         suc zero,
         inr (record {
           job = timed_out ac j;
           there = c.refused last;
+          code = late-job s n limit ac j h w;
           regs = refl;
           wait = refl;
           counted = omega (arith, last, ticks-first Tick es);
@@ -277,7 +294,7 @@ by-tick s es n limit ac j w some enough rest = elim (cases_eq limit 1) [
 
 by-event : (s : S) (e : Event) (es : List Event) (n limit ac : ℕ) (j : Job) → Safe s → IsInWait s.world n j limit ac → spares n e ≡ true
     → 1 ≤ limit → limit ≤ ticks_in (e ∷ es) → Rest (happens s e).state es n → (i : ℕ) × HasEnded s (e ∷ es) n j limit ac i
-by-event s Tick es n limit ac j h w spared some enough rest = by-tick s es n limit ac j w some enough rest
+by-event s Tick es n limit ac j h w spared some enough rest = by-tick s es n limit ac j h w some enough rest
 by-event s Step es n limit ac j h w spared some enough rest = by-other s Step es n limit ac j h w spared refl some enough rest
 by-event s (Typed l c) es n limit ac j h w spared some enough rest = by-other s (Typed l c) es n limit ac j h w spared refl some enough rest
 by-event s (Take l k) es n limit ac j h w spared some enough rest = by-other s (Take l k) es n limit ac j h w spared refl some enough rest

@@ -16,7 +16,7 @@ use Rattle.core_store.specs.Cores.{Cores, IsJob, IsWhole, core_of, blocks_of, wi
 use Rattle.lock_queue.specs.declared.call.LockCall.{LockCall}
 use Rattle.lock_queue.specs.declared.refusal.Refusal.{Refusal}
 use Rattle.lock_queue.specs.declared.request.Request.{Request}
-use Rattle.lock_queue.specs.Jobs.{is_waiting_job, job_notified}
+use Rattle.lock_queue.specs.Jobs.{is_waiting_job, job_notified, pending}
 use Rattle.tty_lines.specs.Rings.{Rings, all_clear}
 use Rattle.job_sched.specs.Limits.{is_queue}
 use Rattle.job_sched.specs.Ready.{holds, is_ready, is_ready_job, first_from, next_job, after}
@@ -49,7 +49,7 @@ use Rattle.machine.specs.Machine.{S, made_if, with_turn, called, awake, ran, ste
 use Rattle.machine.specs.Machine.{made, typed, broken, taken, started, continued, with_image, admitted, examined, logged_in}
 use Rattle.job_sched.specs.Jobs.{new_job}
 use Rattle.machine.specs.Images.{blocks_for, image_top, top_of, image_memory, loaded, fresh_regs}
-use Rattle.machine.specs.Safe.{Safe, Placed, Housed, Queued, wait_of, line_of, LinesApart, LinesBelow}
+use Rattle.machine.specs.Safe.{Safe, InRange, Housed, Queued, wait_of, line_of, LinesApart, LinesBelow}
 use Rattle.machine.specs.Turns.{Turn, turn_of, turned, due, concluded, delivered, notified_at, interrupted_at, done}
 use Rattle.lock_laws.specs.Circles.{NoPlainCircle}
 use Rattle.lock_laws.proofs.EveryChange.{safe_jobs_make_no_circle}
@@ -57,7 +57,7 @@ use Rattle.lock_laws.proofs.AlongCalls.{always_safe}
 use Rattle.lock_laws.proofs.Circling.{by_latest, waits-none}
 use Rattle.monitor_laws.proofs.Housing.{there-set, is_job, housed-job, housed-core, housed-resized, housed-highest, housed-gone}
 use Rattle.monitor_laws.proofs.Housing.{housed-taken, housed-same, mild-ticked, mild-broken, same-limited, same-mapped}
-use Rattle.monitor_laws.proofs.Placing.{placed-set, placed-map, placed-ticked, placed-broken, placed-limited}
+use Rattle.monitor_laws.proofs.Ranges.{CallInRange, call-turned, length-ac_with, ranges-set, ranges-map, range-ticked, range-broken, ranges-limited}
 use Rattle.ka_cpu.proofs.ExecLaws.{by_test, length-core_with, length-exec}
 use Rattle.monitor_laws.proofs.Turning.{length-noted}
 use Rattle.monitor_laws.proofs.Enquiring.{by_enqc}
@@ -275,19 +275,20 @@ sound-ran w time n (Some j) f =
     (free-turn w n t f.there (turned-turned w.size w.table.jobs n (awake j) w.cores w.requests (due j.interrupts _) f))
 
 -- lines and all words
-kept-performed : (w : World) (time n : ℕ) (o : Option Job) (service : Service) (ac e : ℕ) → job_at w.table.jobs n ≡ o
+kept-performed : (w : World) (time n : ℕ) (o : Option Job) (service : Service) (ac e : ℕ) → ac < 16 → job_at w.table.jobs n ≡ o
     → Free w.size w.table.jobs n w.cores w.requests
     → Kept w (performed_by w time n o service ac e).world
-kept-performed w time n None service ac e is f = kept-refl w
-kept-performed w time n (Some j) service ac e is f =
+kept-performed w time n None service ac e low is f = kept-refl w
+kept-performed w time n (Some j) service ac e low is f =
     let a : CallState = row_of service time n ac e (around w j) in
     let r = fine-row service w.table.jobs time n ac e (around w j) f in
     kept-left a.ending w (with_around w n a) n (there-set w.table.jobs n n a.job f.there ∙ f.there) r.housed
-    (kept-row service w time n ac e j is f.there f.housed)
+    (kept-row service w time n ac e j low is f.there f.housed)
 
-kept-called : (w : World) (time n : ℕ) (c : Option MonitorCall) → Free w.size w.table.jobs n w.cores w.requests → Kept w (called w time n c)
-kept-called w time n None f = kept-refl w
-kept-called w time n (Some c) f = kept-performed w time n (job_at w.table.jobs n) (service_of c.kind c.ac c.e) c.ac c.e refl f
+kept-called : (w : World) (time n : ℕ) (c : Option MonitorCall) → CallInRange c → Free w.size w.table.jobs n w.cores w.requests
+    → Kept w (called w time n c)
+kept-called w time n None low f = kept-refl w
+kept-called w time n (Some c) low f = kept-performed w time n (job_at w.table.jobs n) (service_of c.kind c.ac c.e) c.ac c.e low refl f
 
 kept-ran : (w : World) (time n : ℕ) (o : Option Job) → job_at w.table.jobs n ≡ o → Free w.size w.table.jobs n w.cores w.requests → Kept w (ran w time n o)
 kept-ran w time n None is f = kept-refl w
@@ -295,12 +296,12 @@ kept-ran w time n (Some j) is f =
     let t : Turn = turn_of n (awake j) w.cores w.requests in
     let g = free-turn w n t f.there (turned-turned w.size w.table.jobs n (awake j) w.cores w.requests (due j.interrupts _) f) in
     let before = kept-turned w n j is f.there f.housed in
-    let later = kept-called (with_turn w n t) time n t.call g in
+    let later = kept-called (with_turn w n t) time n t.call (call-turned n (awake j) w.cores w.requests (due j.interrupts (pending w.requests n))) g in
     record {
       lines = λ k line e. before.lines k line (later.lines k line e);
       words = later.words ∙ before.words;
       rings = later.rings ∙ before.rings;
-      placed = λ p. later.placed (before.placed p);
+      ranges = λ p. later.ranges (before.ranges p);
     }
 
 -- the job that runs is ready
@@ -363,7 +364,7 @@ safe-stepped s (Some n) h ready =
       most = h.most;
       rings = k.rings ∙ h.rings;
       numbers = below-kept w.table.jobs _ k.lines (subst LinesBelow (sym jobs) h.numbers);
-      placed = k.placed (λ m. subst (λ l. Placed (job_at l m)) (sym jobs) (h.placed m));
+      ranges = k.ranges (λ m. subst (λ l. InRange (job_at l m)) (sym jobs) (h.ranges m));
     }
 
 -- events that put a world in the place of another
@@ -376,7 +377,7 @@ safe-made s w h r k = record {
   most = h.most;
   rings = k.rings ∙ h.rings;
   numbers = below-kept s.world.table.jobs w.table.jobs k.lines h.numbers;
-  placed = k.placed h.placed;
+  ranges = k.ranges h.ranges;
 }
 
 safe-killed : (s : S) (n : ℕ) (o : Option Job) → Safe s → job_at s.world.table.jobs n ≡ o → Safe (killed s n o).state
@@ -398,7 +399,7 @@ safe-slept s h =
       most = h.most;
       rings = h.rings;
       numbers = below-kept s.world.table.jobs _ (lines-same s.world.table.jobs _ same) h.numbers;
-      placed = placed-map (option_map ticked_job) s.world.table.jobs placed-ticked h.placed;
+      ranges = ranges-map (option_map ticked_job) s.world.table.jobs range-ticked h.ranges;
     }
 
 safe-limited : (s : S) (time : ℕ) → Safe s → Safe (record s { world = limited s.world; time = time })
@@ -412,7 +413,7 @@ safe-limited s time h =
       most = h.most;
       rings = h.rings;
       numbers = below-kept s.world.table.jobs _ (lines-same s.world.table.jobs _ same) h.numbers;
-      placed = placed-limited s.world.table s.world.requests h.placed;
+      ranges = ranges-limited s.world.table s.world.requests h.ranges;
     }
 
 safe-ticked : (s : S) → Safe s → Safe (ticked s).state
@@ -429,7 +430,7 @@ safe-broken s line h =
       most = h.most;
       rings = h.rings;
       numbers = below-kept s.world.table.jobs _ (lines-same s.world.table.jobs _ same) h.numbers;
-      placed = placed-map (option_map (broken_job line)) s.world.table.jobs (placed-broken line) h.placed;
+      ranges = ranges-map (option_map (broken_job line)) s.world.table.jobs (range-broken line) h.ranges;
     }
 
 -- lines alone
@@ -442,7 +443,7 @@ safe-lines s lines same h = record {
   most = h.most;
   rings = same ∙ h.rings;
   numbers = h.numbers;
-  placed = h.placed;
+  ranges = h.ranges;
 }
 
 safe-typed : (s : S) (line c : ℕ) → Safe s → Safe (typed s line c).state
@@ -457,7 +458,7 @@ safe-taken s line n h = by_test (λ (m : Made). Safe m.state) (nat_le LINES line
 
 -- a job starts or goes on
 safe-set : (s : S) (n : ℕ) (j k : Job) (requests : List Request) → Safe s → job_at s.world.table.jobs n ≡ Some j → k.line ≡ j.line
-    → Placed (Some k) → Queued s.world.size (slice_set s.world.table.jobs n (Some k)) requests
+    → InRange (Some k) → Queued s.world.size (slice_set s.world.table.jobs n (Some k)) requests
     → Safe (made s (record s.world { table = with_job s.world.table n (Some k); requests = requests })).state
 safe-set s n j k requests h is same fits q = record {
   housed = housed-job s.world.table.jobs s.world.cores n k (ap is_some is) h.housed;
@@ -467,11 +468,11 @@ safe-set s n j k requests h is same fits q = record {
   most = h.most;
   rings = h.rings;
   numbers = below-kept s.world.table.jobs _ (lines-set s.world.table.jobs n k (ap is_some is) (ap line_of is ∙ ap Some (sym same))) h.numbers;
-  placed = placed-set s.world.table.jobs n (Some k) fits h.placed;
+  ranges = ranges-set s.world.table.jobs n (Some k) fits h.ranges;
 }
 
-start-fits : (j : Job) → Placed (Some j) → Placed (Some (started_job j))
-start-fits j h = (h.1, h.1)
+start-fits : (j : Job) → InRange (Some j) → InRange (Some (started_job j))
+start-fits j h = (h.1, h.1, h.2, tt)
 
 safe-made_if : (s : S) (w : World) (r : Result (Unit {0}) JobError) → Safe s → (is_ok r ≡ true → Safe (made s w).state) → Safe (made_if s w r).state
 safe-made_if s w (Ok x) h made_safe = made_safe refl
@@ -491,7 +492,7 @@ safe-started s n h =
     (made s
     (record s.world { table = with_job s.world.table n (option_map started_job o); requests = withdrawn s.world.requests n })).state)
     (sym p.1)
-    (safe-set s n p.0 (started_job p.0) (withdrawn s.world.requests n) h p.1 refl (start-fits p.0 (subst Placed p.1 (h.placed n)))
+    (safe-set s n p.0 (started_job p.0) (withdrawn s.world.requests n) h p.1 refl (start-fits p.0 (subst InRange p.1 (h.ranges n)))
     (queued-started s.world.size s.world.table.jobs s.world.requests n (started_job p.0) (ap is_some p.1) h.queued)))
 
 safe-continued : (s : S) (n : ℕ) → Safe s → Safe (continued s n).state
@@ -499,7 +500,7 @@ safe-continued s n h =
     safe-made_if s _ (standing (job_at s.world.table.jobs n)) h (λ ok.
     let p = standing-there (job_at s.world.table.jobs n) ok in
     subst (λ o. Safe (made s (record s.world { table = with_job s.world.table n (option_map going_on o) })).state) (sym p.1)
-    (safe-set s n p.0 (going_on p.0) s.world.requests h p.1 refl (subst Placed p.1 (h.placed n))
+    (safe-set s n p.0 (going_on p.0) s.world.requests h p.1 refl (subst InRange p.1 (h.ranges n))
     (queued-going_on s.world.size s.world.table.jobs s.world.requests n (going_on p.0) (ap is_some p.1) (ap wait_of p.1) h.queued)))
 
 -- a job begins
@@ -544,6 +545,10 @@ pc-loaded : (p : Memory) (ws : List (ℕ × ℕ)) → (loaded p ws).regs.pc ≡ 
 pc-loaded p [] = refl
 pc-loaded p (w ∷ ws) = pc-loaded (stored_at p w.0 w.1) ws
 
+registers-loaded : (p : Memory) (ws : List (ℕ × ℕ)) → length (loaded p ws).regs.ac ≡ length p.regs.ac
+registers-loaded p [] = refl
+registers-loaded p (w ∷ ws) = registers-loaded (stored_at p w.0 w.1) ws ∙ length-ac_with p.regs.ac w.0 w.1
+
 safe-image : (s : S) (n line : ℕ) (ws : List (ℕ × ℕ)) (start blocks : ℕ) → start < 2 ^ 18 → 1 ≤ blocks
     → blocks ≤ s.world.cores.free
     → IsFree s.world.table.jobs n
@@ -551,6 +556,7 @@ safe-image : (s : S) (n line : ℕ) (ws : List (ℕ × ℕ)) (start blocks : ℕ
     → Safe (record s { world = with_image s.world n line ws start blocks })
 safe-image s n line ws start blocks low some room free fits none h =
     let number : IsJob n = (free.least, omega (arith, h.housed.slots, free.below)) in
+    let q : Memory = record { regs = fresh_regs start; core = replicate (blocks * BLOCK_WORDS) 0 } in
     let p : Memory = image_memory ws start blocks in
     record {
       housed =
@@ -564,12 +570,9 @@ safe-image s n line ws start blocks low some room free fits none h =
       most = h.most;
       rings = h.rings;
       numbers = below-new s.world.table.jobs n (new_job line p.regs start (first_quota s.world.size)) free.below fits h.numbers;
-      placed =
-          placed-set s.world.table.jobs n (Some (new_job line p.regs start (first_quota s.world.size))) (
-            subst (λ pc. pc < 2 ^ 18)
-                (sym (pc-loaded (record { regs = fresh_regs start; core = replicate (blocks * BLOCK_WORDS) 0 }) ws)) low,
-            low,
-          ) h.placed;
+      ranges =
+          ranges-set s.world.table.jobs n (Some (new_job line p.regs start (first_quota s.world.size)))
+          (subst (λ pc. pc < 2 ^ 18) (sym (pc-loaded q ws)) low, low, registers-loaded q ws, tt) h.ranges;
     }
 
 safe-admitted : (s : S) (line : ℕ) (ws : List (ℕ × ℕ)) (start blocks : ℕ) (o : Option ℕ) → start < 2 ^ 18 → 1 ≤ blocks
@@ -649,7 +652,7 @@ safe-empty size blocks shared time quantum few =
       total = omega arith;
       most = few;
       rings = refl;
-      placed = λ n. subst Placed (sym (none-replicate (JOBS + 1) n)) tt;
+      ranges = λ n. subst InRange (sym (none-replicate (JOBS + 1) n)) tt;
       numbers = λ a line e. absurd (no-line a line (sym (ap line_of (none-replicate (JOBS + 1) a)) ∙ e));
     }
   where

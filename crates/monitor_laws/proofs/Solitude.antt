@@ -19,7 +19,7 @@ use Rattle.machine.specs.Alone.{Solo, solo_step, solo, is_allowed, OnlyPrints, S
 use Rattle.machine.specs.Alone.{steps_of, taken_by, taken_from, solo_of, RunsAlone}
 use Rattle.job_sched.specs.Changes.{chosen}
 use Rattle.machine.specs.Machine.{S, Made, with_turn, called, awake, ran, stepped, happens, after}
-use Rattle.machine.specs.Safe.{Safe, Placed, line_of}
+use Rattle.machine.specs.Safe.{Safe, InRange, line_of}
 use Rattle.machine.specs.Turns.{turned, due}
 use Rattle.monitor_laws.proofs.Housing.{there-below, is_job}
 use Rattle.ka_cpu.proofs.ExecLaws.{ends-exec}
@@ -108,7 +108,7 @@ taken-none w n line first taken now x is a = subst (λ l. Stands w n line first 
 
 -- the PC of a job is a place
 small-pc : (s : S) (n line : ℕ) (first taken : List ℕ) (x : Solo) → Safe s → Stands s.world n line first taken x → x.regs.pc < 2 ^ 18
-small-pc s n line first taken x h a = let placed = subst Placed a.there (h.placed n) in subst (λ (g : Regs). g.pc < 2 ^ 18) a.regs placed.0
+small-pc s n line first taken x h a = let ranges = subst InRange a.there (h.ranges n) in subst (λ (g : Regs). g.pc < 2 ^ 18) a.regs ranges.0
 
 -- what is known after the events that are left
 abbrev Later : S → List Event → ℕ → ℕ → List ℕ → Type 0

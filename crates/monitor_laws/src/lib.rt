@@ -6,7 +6,7 @@ ghost use Rattle.std.specs.Prelude.{ℕ, ◌≤◌, List};
 ghost use Rattle.word36.specs.declared.sizes.TheConstants.{MOST_BLOCKS};
 ghost use Rattle.lock_laws.specs.Circles.{NoPlainCircle};
 ghost use Rattle.machine.specs.Alone.{RunsAlone};
-ghost use Rattle.machine.specs.Limits.{GrantsStopLimits, LimitsAreKept, LimitsCount};
+ghost use Rattle.machine.specs.Limits.{GrantsStopLimits, LimitsAreKept, LimitsCount, LimitsLeaveTheirCode};
 ghost use Rattle.machine.specs.Machine.{S, at_boot, happens};
 ghost use Rattle.machine.specs.Owners.{KeepsOwners};
 ghost use Rattle.machine.specs.Safe.{Safe};
@@ -40,10 +40,11 @@ pub fn jobs_run_alone()
 {}
 
 /// The limit of a wait counts ticks as long as the wait holds, and at the last tick the job's call is
-/// refused. From a safe state, where nobody starts or kills the job or restarts the machine, the request is
-/// granted before, or the call is refused.
+/// refused: from a safe state, its accumulator then holds 21 octal, the code. From a safe state, where nobody
+/// starts or kills the job or restarts the machine, the request is granted before, or the call is refused.
 pub fn limits_are_kept()
     ensures ticks { (s : S) → LimitsCount s }
+    ensures codes { (s : S) → Safe s → LimitsLeaveTheirCode s }
     ensures grants { (s : S) → GrantsStopLimits s }
     ensures runs { (s : S) (events : List EventView) → Safe s → LimitsAreKept s events }
 {}

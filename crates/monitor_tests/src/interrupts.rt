@@ -59,7 +59,7 @@ static TWO_GRANTS_INTERRUPT_IN_ORDER: Table = Table {
         Job(2, 0o174, None, Wait::None),
         Word(2, 0o201, AT_152),
         Word(2, 0o203, Some(0o10)),
-        // Each is told once.
+        // Each is notified once.
         Turns(&[1, 2, 1, 2, 1, 2, 1]),
         Job(2, 0o153, None, Wait::None),
         Word(2, 0o203, Some(0o10)),
@@ -161,7 +161,7 @@ const SHRINKER: &str =
 
 const STOPPED: Option<Stop> = Some(Stop::Fault(IllegalAddress));
 
-/// The job stops, and the request is not told: it would interrupt again.
+/// The job stops, and the request is not notified: it would interrupt again.
 static A_VECTOR_THAT_IS_GONE: Table = Table {
     name: "a_vector_that_is_gone",
     blocks: 64,

@@ -14,7 +14,7 @@ use monitor::RefusedEvent::{
 };
 use word36::{JOBS, LINES};
 
-/// ENQ. 1 of a user code, and EXIT: four words at 140 octal, and a block behind a place left out.
+/// ENQ. 1 of a user code, and EXIT: four words at 140 octal, and a block behind an address left out.
 const CODE_AND_EXIT: Words = &[
     (0o140, 0o200040_000145),
     (0o141, 0o047040_000151),
@@ -68,10 +68,10 @@ const LARGE: Words = &[(0o140, 0), (0o2000, 0)];
 /// Places that fall.
 const FALLING: Words = &[(0o141, 0), (0o140, 0)];
 
-/// A place that comes twice.
+/// An address that comes twice.
 const TWICE: Words = &[(0o140, 0), (0o140, 0)];
 
-/// A place past the last.
+/// An address past the last.
 const HIGH: Words = &[(0o140, 0), (0o1000000, 0)];
 
 /// The machine has one block.

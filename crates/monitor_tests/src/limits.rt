@@ -26,15 +26,15 @@ const LOOPER: &str = " MOVE 1,[1,,BLK]\n ENQ. 1,\n HALT\n JRST .\n\
 const FIVE_TICKS: &str = " MOVEI 1,BLK\n ENQ. 1,\n INCHRW 7\n INCHRW 6\n\
     BLK: 1,,5\n 5,,2\n 777777\n 500000,,12\n 0\n END\n";
 
-/// ENQ. 0 of the owner's lock, alone, with a limit of three ticks; its places are those of `FIVE_TICKS`.
+/// ENQ. 0 of the owner's lock, alone, with a limit of three ticks; its addresses are those of `FIVE_TICKS`.
 const THREE_TICKS: &str = " MOVEI 1,BLK\n ENQ. 1,\n INCHRW 7\n INCHRW 6\n\
     BLK: 1,,5\n 3,,2\n 777777\n 500000,,12\n 0\n END\n";
 
-/// ENQ. 0 of the owner's lock, shared, with a limit of three ticks; its places are those of `FIVE_TICKS`.
+/// ENQ. 0 of the owner's lock, shared, with a limit of three ticks; its addresses are those of `FIVE_TICKS`.
 const SHARED_THREE_TICKS: &str = " MOVEI 1,BLK\n ENQ. 1,\n INCHRW 7\n INCHRW 6\n\
     BLK: 1,,5\n 3,,3\n 400000,,777777\n 500000,,12\n 0\n END\n";
 
-/// ENQ. 0 of the owner's lock, shared, with a limit of four ticks; its places are those of `FIVE_TICKS`.
+/// ENQ. 0 of the owner's lock, shared, with a limit of four ticks; its addresses are those of `FIVE_TICKS`.
 const SHARED_FOUR_TICKS: &str = " MOVEI 1,BLK\n ENQ. 1,\n INCHRW 7\n INCHRW 6\n\
     BLK: 1,,5\n 4,,3\n 400000,,777777\n 500000,,12\n 0\n END\n";
 

@@ -1,4 +1,4 @@
-//! Rounds that are made at once up to a place.
+//! Rounds that are made at once up to an address.
 
 use crate::rows::Act::Kill;
 use crate::rows::Reply::Done;
@@ -9,7 +9,7 @@ use job_sched::Wait;
 /// A job that computes: three instructions, and again from the second on.
 const COMPUTES: &str = " MOVEI 1,0\nLOOP: ADDI 1,1\n JRST LOOP\n END\n";
 
-/// The first instruction leads to the place; where the job stands before it does not count.
+/// The first instruction leads to the address; where the job stands before it does not count.
 static A_JOB_ALONE_RUNS_TO_A_PLACE: Table = Table {
     name: "a_job_alone_runs_to_a_place",
     blocks: 64,

@@ -41,7 +41,7 @@ pub enum Reply {
     Refused(RefusedEvent),
 }
 
-/// Words with their places.
+/// Words with their addresses.
 pub type Words = &'static [(u32, u64)];
 
 /// A request in the table of locks: its job, its kind, its id, and whether it is granted.
@@ -51,7 +51,7 @@ pub type Entry = (u8, EnqueueKind, u32, bool);
 pub enum Row {
     /// The image of a source begins at a line as the job of this number, and starts.
     Begins(u8, &'static str, u8),
-    /// An image of these words begins at a line. It starts at its first place.
+    /// An image of these words begins at a line. It starts at its first address.
     Loads(u8, Words, Reply),
     /// An image of these words begins at each of so many first lines, as the job of the number that is one more.
     LoadsEach(u8, Words),
@@ -73,17 +73,17 @@ pub enum Row {
     Rounds(u32, u32),
     /// Steps with a tick behind each: the numbers of the jobs that run, 0 where none does.
     Turns(&'static [u8]),
-    /// At most so many rounds to one of these places: the job that runs, and how many are made.
+    /// At most so many rounds to one of these addresses: the job that runs, and how many are made.
     RoundsTo(u32, &'static [u32], Option<u8>, u32),
-    /// A word is put at a place of a job, and whether the job has that place.
+    /// A word is put at an address of a job, and whether the job has that address.
     Deposits(u8, u32, u64, bool),
-    /// A job starts at a place, and the answer.
+    /// A job starts at an address, and the answer.
     StartsAt(u8, u32, Reply),
     /// A job's PC, why it is stopped, and the wait that holds.
     Job(u8, u32, Option<Stop>, Wait),
     /// No job has that number.
     NoJob(u8),
-    /// The word at a place of a job; `None` where the place is not legal.
+    /// The word at an address of a job; `None` where the address is not legal.
     Word(u8, u32, Option<u64>),
     /// A word that all jobs share; `None` where there is none of that number.
     Shared(usize, Option<u64>),
@@ -193,7 +193,7 @@ fn begins_source<L: LockTable>(
     }
 }
 
-/// The place of the first word, 0 where there is none.
+/// The address of the first word, 0 where there is none.
 fn first_place(words: &[(u32, u64)]) -> u32 {
     match words.first() {
         Some(word) => word.0,
@@ -201,14 +201,14 @@ fn first_place(words: &[(u32, u64)]) -> u32 {
     }
 }
 
-/// An image of these words, which starts at its first place.
+/// An image of these words, which starts at its first address.
 fn image_of(alloc: Global, words: &[(u32, u64)]) -> Result<Image, AllocError> {
     let mut image = Image {
         words: Vec::new(alloc),
         start: first_place(words),
     };
-    for (place, word) in words {
-        image.words.push((*place, Word::low_bits(*word)))?;
+    for (address, word) in words {
+        image.words.push((*address, Word::low_bits(*word)))?;
     }
     Ok(image)
 }
@@ -321,23 +321,23 @@ fn turns<L: LockTable>(system: &mut System<L, PlainCore>, numbers: &[u8]) -> boo
     true
 }
 
-/// The place of a number.
-fn place(number: u32) -> Address {
+/// The address of a number.
+fn address(number: u32) -> Address {
     Address::new(number & 0o777_777)
 }
 
-/// Whether this job runs in so many rounds to one of these places, of which there are at most two.
+/// Whether this job runs in so many rounds to one of these addresses, of which there are at most two.
 fn makes_rounds<L: LockTable>(
     system: &mut System<L, PlainCore>,
     most: u32,
-    places: &[u32],
+    addresses: &[u32],
     job: Option<u8>,
     made: u32,
 ) -> bool {
-    let first = place(places.first().copied().unwrap_or(0));
-    let second = place(places.get(1).copied().unwrap_or(0));
+    let first = address(addresses.first().copied().unwrap_or(0));
+    let second = address(addresses.get(1).copied().unwrap_or(0));
     let both = [first, second];
-    let rounds = system.rounds_to(most.max(1), &both[..places.len().min(2)]);
+    let rounds = system.rounds_to(most.max(1), &both[..addresses.len().min(2)]);
     rounds.job == job && rounds.made == made
 }
 
@@ -355,7 +355,7 @@ fn is_at<L: LockTable>(
     }
 }
 
-/// Whether the request at a place of the table is that one.
+/// Whether the request at a position of the table is that one.
 fn is_entry<L: LockTable>(locks: &L, i: usize, entry: &Entry) -> bool {
     if i >= locks.len() {
         return false;
@@ -392,7 +392,7 @@ impl Row {
         match self {
             Row::Job(number, pc, stop, wait) => is_at(system, *number, *pc, *stop, *wait),
             Row::NoJob(number) => system.job(*number).is_none(),
-            Row::Word(number, place, word) => is_word(system.peek(*number, *place), *word),
+            Row::Word(number, address, word) => is_word(system.peek(*number, *address), *word),
             Row::Shared(i, word) => is_word(system.data_word(*i), *word),
             Row::Locks(entries) => are_locks(system.locks(), entries),
             Row::Requests(count) => system.locks().len() == *count,
@@ -416,13 +416,13 @@ impl Row {
             Row::Steps(most, ran) => system.steps(*most, false) == *ran,
             Row::Rounds(most, ran) => system.steps(*most, true) == *ran,
             Row::Turns(numbers) => turns(system, numbers),
-            Row::RoundsTo(most, places, job, made) => {
-                makes_rounds(system, *most, places, *job, *made)
+            Row::RoundsTo(most, addresses, job, made) => {
+                makes_rounds(system, *most, addresses, *job, *made)
             }
-            Row::Deposits(job, place, word, there) => {
-                system.deposit(*job, *place, Word::low_bits(*word)) == *there
+            Row::Deposits(job, address, word, there) => {
+                system.deposit(*job, *address, Word::low_bits(*word)) == *there
             }
-            Row::StartsAt(job, at, reply) => reply.is(&system.start_at(*job, place(*at))),
+            Row::StartsAt(job, at, reply) => reply.is(&system.start_at(*job, address(*at))),
             _ => self.is_seen(system),
         }
     }

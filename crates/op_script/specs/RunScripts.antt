@@ -30,7 +30,7 @@ use Rattle.op_script.specs.Printing.{refused_line, job_line, address_line, word_
 use Rattle.op_script.specs.Sources.{SourceText, empty_source, with_line}
 use Rattle.op_script.specs.declared.commands.Command.{Command}
 use Rattle.op_script.specs.declared.commands.Command.TheVariants as command
-use Rattle.op_script.specs.declared.events.TheConstants.{MOST_TAKES}
+use Rattle.machine.specs.declared.sizes.TheConstants.{MOST_TAKES}
 
 -- what a line does: the machine, the images and the source afterwards, what it writes, and how the script ends, if it
 -- ends there

@@ -10,13 +10,11 @@ use crate::texts::TypedText;
 use arrayvec::ArrayVec;
 use core_store::CoreStore;
 use lock_queue::LockTable;
+use machine::MOST_TAKES;
 use monitor::{Answer, Event, RefusedEvent, System};
 use std::alloc::AllocError;
 use tty_lines::Char7;
-use word36::{Image, OUTPUT_RING, TAKEN_AT_ONCE};
-
-/// How many Take events empty an output ring that is full; the last finds nothing.
-pub const MOST_TAKES: usize = OUTPUT_RING / TAKEN_AT_ONCE + 1;
+use word36::{Image, TAKEN_AT_ONCE};
 
 /// Room for what they give.
 const TAKEN_ROOM: usize = MOST_TAKES * TAKEN_AT_ONCE;

@@ -13,7 +13,6 @@ mod sources;
 mod texts;
 
 pub use commands::{MOST_ADDRESS, MOST_EVENTS, MOST_NUMBER, is_command};
-pub use events::MOST_TAKES;
 pub use monitor::Config;
 pub use names::NAME_LENGTH;
 pub use run_scripts::{RunService, serve};

@@ -11,7 +11,7 @@ use Rattle.machine.specs.declared.event.Answer.TheVariants.{Text}
 use Rattle.machine.specs.declared.event.RefusedEvent.TheVariants.{NoLine}
 use Rattle.machine.specs.declared.event.Event.TheVariants as event
 use Rattle.op_script.specs.Events.{taken_by, taken_with}
-use Rattle.op_script.specs.declared.events.TheConstants.{MOST_TAKES}
+use Rattle.machine.specs.declared.sizes.TheConstants.{MOST_TAKES}
 use Rattle.script_laws.specs.Taking.{TakesAll, TakeTakesAll}
 
 -- what holds either way of a test

@@ -5,7 +5,7 @@ use Rattle.tty_lines.specs.Rings.{IsLines, output_of}
 use Rattle.machine.specs.Machine.{S}
 use Rattle.machine.specs.declared.event.Event.TheVariants as event
 use Rattle.op_script.specs.Events.{Taking, taken_by}
-use Rattle.op_script.specs.declared.events.TheConstants.{MOST_TAKES}
+use Rattle.machine.specs.declared.sizes.TheConstants.{MOST_TAKES}
 
 -- what was taken is all output of the line, none of it is left, and nothing was refused
 pub record TakesAll (s : S) (line : ℕ) (t : Taking) : Type 0 where

@@ -27,4 +27,5 @@ pub use laws::{
     refusals_change_ac_alone, texts_go_whole,
 };
 pub use room::CallRoom;
+pub use service::{Awaited, Service, service_of};
 pub use world::World;

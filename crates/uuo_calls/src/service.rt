@@ -18,33 +18,52 @@ pub enum Awaited {
 /// The monitor calls, by their names in the TOPS-10 Monitor Calls Manual; `Unlisted` for all others.
 #[derive(Clone, Copy, Debug, PartialEq, Eq)]
 pub enum Service {
+    /// The job's requests for locks leave, and it has no interrupt vector.
     Reset,
+    /// The job gets more blocks of core, or fewer.
     Core,
     /// EXIT with AC field 0.
     Exit,
     /// EXIT with AC field 1.
     Monrt,
+    /// The job ends.
     Logout,
+    /// The time of day in milliseconds.
     Mstime,
+    /// The number of the job.
     Pjob,
+    /// The job waits for so many seconds.
     Sleep,
+    /// PIINI.: the job gets an interrupt vector.
     Piini,
+    /// PISYS.: interrupts are put on or off.
     Pisys,
+    /// DEBRK.: the end of an interrupt.
     Debrk,
+    /// ENQ.
     Enq,
+    /// DEQ.
     Deq,
+    /// ENQC.
     Enqc,
+    /// DATRD.: a shared word is read.
     Datrd,
+    /// DATWR.: a shared word is written.
     Datwr,
     /// INCHRW, INCHRS, INCHWL and INCHSL: what is read, and whether the call skips where that is there and
     /// goes on where it is not, in place of a wait.
     Input(Awaited, bool),
+    /// A character goes out.
     Outchr,
+    /// A text goes out.
     Outstr,
+    /// The input of the job's line is emptied.
     Clrbfi,
+    /// The output of the job's line is emptied.
     Clrbfo,
     /// SKPINC and SKPINL.
     Skpin(Awaited),
+    /// None of these.
     Unlisted,
 }
 
@@ -102,9 +121,8 @@ fn ttcall_of(ac: Accumulator) -> Service
     }
 }
 
-/// The call of an operation with this AC field and this E: E tells one CALLI from another, the AC field one
-/// TTCALL.
-pub(crate) fn service_of(kind: CallKind, ac: Accumulator, e: Address) -> Service
+/// The call of an operation with this AC field and this E: a CALLI is known by its E, a TTCALL by its AC field.
+pub fn service_of(kind: CallKind, ac: Accumulator, e: Address) -> Service
     ensures { result ≡ service_of kind ac e }
 {
     match kind {

@@ -1,6 +1,6 @@
 use Rattle.std.proofs.Common.{◌<◌, ◌≤◌, ◌++◌, ◌∙◌, length, ap, subst, arith, length-append}
 use Rattle.word36.specs.declared.sizes.TheConstants.{TAKEN_AT_ONCE}
-use Rattle.op_script.specs.declared.events.TheConstants.{MOST_TAKES}
+use Rattle.machine.specs.declared.sizes.TheConstants.{MOST_TAKES}
 use Rattle.op_script.proofs.EventLemmas.{taken-start, taken-last, taken-more, taken-refused, taken-other, taken-end}
 use Rattle.op_script.proofs.events.take_characters.Goals as goal
 

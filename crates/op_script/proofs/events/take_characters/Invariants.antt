@@ -1,6 +1,6 @@
 use Rattle.std.proofs.Common.{◌≡◌, ◌-◌, ◌*◌, ◌≤◌, length}
 use Rattle.op_script.specs.Events.{taken_by}
-use Rattle.op_script.specs.declared.events.TheConstants.{MOST_TAKES}
+use Rattle.machine.specs.declared.sizes.TheConstants.{MOST_TAKES}
 use Rattle.op_script.proofs.EventLemmas.{behind}
 use Rattle.op_script.proofs.events.take_characters.Given as goal
 

@@ -1,6 +1,6 @@
 use Rattle.std.proofs.Common.{◌∙◌, sym, Some, arith}
 use Rattle.job_sched.proofs.Sleepers.{IsTable-set, left-none, right-none}
-use Rattle.job_sched.proofs.table.JobTable.place.Goals as goal
+use Rattle.job_sched.proofs.table.JobTable.put.Goals as goal
 
 pub invariant_of-self : goal.invariant_of-self
 invariant_of-self c =
