@@ -1,5 +1,5 @@
 -- Lemmas on what is seen along a script.
-use Rattle.std.proofs.Common.{◌≡◌, ◌≤◌, ◌+◌, ◌⊎◌, ◌∙◌, ℕ, suc, List, [], ◌∷◌, Option, None, Some, Result, Ok, Err, IfOk, IfSome}
+use Rattle.std.proofs.Common.{◌≡◌, ◌≤◌, ◌+◌, ◌++◌, ◌⊎◌, ◌∙◌, ℕ, suc, List, [], ◌∷◌, Option, None, Some, Result, Ok, Err, IfOk, IfSome}
 use Rattle.std.proofs.Common.{IsSome, is_some, unwrap_or, true, false, refl, sym, ap, subst, inl, inr, arith}
 use Rattle.std.proofs.lemmas.Bool.{cases_eq}
 use Rattle.std.proofs.lemmas.Bool.Decides.{nat_tests}
@@ -12,9 +12,10 @@ use Rattle.queue_script.specs.QueueScripts.{continued, effect_of, transcript, tr
 use Rattle.script_io.specs.declared.endings.Ending.{Ending}
 use Rattle.script_io.specs.declared.endings.Ending.TheVariants as ending
 use Rattle.lock_bars.specs.Bars.{bars_after}
-use Rattle.lock_bars.specs.Courses.{Course, IsFaultOf, course, course_of, has_line, requests_after, unless_over}
+use Rattle.lock_bars.specs.Courses.{Course, IsFaultOf, course, course_of, has_line, line_columns, requests_after, unless_over}
 use Rattle.wait_graph.specs.Graphs.{Shows}
 use Rattle.lock_bars.specs.declared.bars.Bar.{Bar}
+use Rattle.lock_bars.specs.declared.columns.Column.{Column}
 use Rattle.lock_bars.specs.declared.errors.ScriptError.{ScriptError}
 use Rattle.lock_bars.specs.declared.errors.ScriptError.TheVariants.{Memory, Short}
 use Rattle.wait_graph.specs.declared.graph.Graph.{Graph}
@@ -72,6 +73,15 @@ course_next size requests next n m lines more line bars new whole here goes_on i
     ∙ ap (λ o. unless_over o n bars onward) goes_on
     ∙ sym (ap (λ ls. course_of size requests n ls bars) here)
     ∙ before
+
+-- a column for the next line
+pub columns_next : (n m : ℕ) (old seen new : List Column) (column : Column) → m ≡ n + 1 → column ≡ record { line = n + 1; tick = 0 }
+    → seen ≡ old ++ column ∷ [] → new ≡ seen → old ≡ line_columns n → new ≡ line_columns m
+columns_next n m old seen new column counted is added kept before =
+    let one : n + 1 ≡ suc n = omega arith in
+    kept ∙ added ∙ ap (λ c. old ++ c ∷ []) (is ∙ ap (λ i. record { line = i; tick = 0 }) one)
+    ∙ ap (λ cs. cs ++ record { line = suc n; tick = 0 } ∷ []) before
+    ∙ ap line_columns (sym (counted ∙ one))
 
 -- the requests behind the lines that are still to come
 pub behind_next : (size : ℕ) (requests next : List Request) (n m : ℕ) (lines more all : List (List ℕ)) (line : List ℕ) → lines ≡ line ∷ more

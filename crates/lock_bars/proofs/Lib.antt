@@ -1,2 +1,4 @@
 pub mod HoldLemmas
 pub mod CourseLemmas
+pub mod BarLemmas
+pub mod LaneLemmas

@@ -1,5 +1,5 @@
 -- The bars of a picture: over which lines a job owned a lock or waited for it (this project's profile).
-use Rattle.std.specs.Prelude.{ℕ, ◌+◌, Bool, not, ◌==◌, ◌&&◌, if◌then◌else◌, List, [], ◌∷◌, ◌++◌, map}
+use Rattle.std.specs.Prelude.{ℕ, ◌+◌, Bool, not, ◌==◌, ◌&&◌, if◌then◌else◌, List, [], ◌∷◌, ◌++◌, map, nat_le, nat_lt}
 use Rattle.std.specs.List.{flat_map, list_any}
 use Rattle.lock_queue.specs.Keys.{same_key}
 use Rattle.lock_queue.specs.declared.request.Request.{Request}
@@ -28,6 +28,10 @@ bars_with line bars holds = map (extended line holds) bars ++ flat_map (started 
 -- the bars after a line, from those before it and the requests that are present after it
 abbrev pub bars_after : ℕ → List Bar → List Request → List Bar
 bars_after line bars requests = bars_with line bars (holds_of requests)
+
+-- a bar shows a holding over a line
+abbrev pub is_over : ℕ → Hold → Bar → Bool
+is_over line hold bar = (nat_le bar.from line && nat_lt line bar.until) && same_hold bar.hold hold
 
 -- two bars are of one lane: one job's, on one lock
 abbrev pub same_lane : Bar → Bar → Bool

@@ -1,5 +1,6 @@
 -- What is seen along the lines of a script on the lock queue (this project's profile).
-use Rattle.std.specs.Prelude.{◌≡◌, ◌<◌, ◌≤◌, ◌&&◌, ℕ, zero, suc, Bool, true, false, ◌+◌, List, [], ◌∷◌, Option, Some, None, IsSome, nat_le}
+use Rattle.std.specs.Prelude.{◌≡◌, ◌<◌, ◌≤◌, ◌&&◌, ℕ, zero, suc, Bool, true, false, ◌+◌, List, [], ◌∷◌, ◌++◌, Option, Some, None, IsSome, nat_le}
+use Rattle.std.specs.List.{list_any}
 use Rattle.std.specs.Str.Lines.{lines}
 use Rattle.word36.specs.declared.sizes.TheConstants.{MOST_REQUESTS}
 use Rattle.lock_queue.specs.declared.request.Request.{Request}
@@ -7,8 +8,11 @@ use Rattle.queue_script.specs.Commands.{command_of}
 use Rattle.queue_script.specs.QueueScripts.{effect_of}
 use Rattle.script_io.specs.declared.endings.Ending.{Ending}
 use Rattle.script_io.specs.declared.endings.Ending.TheVariants as ending
-use Rattle.lock_bars.specs.Bars.{bars_after}
+use Rattle.lock_bars.specs.Bars.{bars_after, is_over}
+use Rattle.lock_bars.specs.Holds.{holds_of, same_hold}
 use Rattle.lock_bars.specs.declared.bars.Bar.{Bar}
+use Rattle.lock_bars.specs.declared.columns.Column.{Column}
+use Rattle.lock_bars.specs.declared.holds.Hold.{Hold}
 use Rattle.lock_bars.specs.declared.errors.ScriptError.{ScriptError}
 use Rattle.lock_bars.specs.declared.errors.TheConstants.{MOST_LINES}
 use Rattle.lock_bars.specs.declared.errors.ScriptError.TheVariants.{Memory, Line, TooLong, Short, NoEnd, Source}
@@ -23,6 +27,11 @@ pub record Course : Type 0 where
 abbrev pub unless_over : Option Ending → ℕ → List Bar → Course → Course
 unless_over (Some e) n bars onward = record { bars = bars; lines = n; ending = e }
 unless_over None n bars onward = onward
+
+-- the columns of so many lines: one a line
+abbrev pub line_columns : ℕ → List Column
+line_columns zero = []
+line_columns (suc n) = line_columns n ++ record { line = suc n; tick = 0 } ∷ []
 
 -- along lines on a queue of some size, where n lines have left these requests and these bars: each line does what it does
 -- in the transcript, and the bars after it are those by the requests that it leaves
@@ -47,6 +56,13 @@ requests_after size (suc k) requests n (line ∷ more) =
 -- behind so many lines of a script, on a queue of the largest size, which is empty at first
 abbrev pub requests_behind : ℕ → List ℕ → List Request
 requests_behind k script = requests_after MOST_REQUESTS k [] 0 (lines script)
+
+-- each bar lasts exactly as long as its holding: of the lines that were seen, a bar shows a holding over a line exactly
+-- where the holding is one of the queue behind that line
+abbrev pub Lasts : Course → List ℕ → Type 0
+Lasts seen script =
+    (k : ℕ) (hold : Hold) → 1 ≤ k → k ≤ seen.lines
+    → list_any (is_over k hold) seen.bars ≡ list_any (same_hold hold) (holds_of (requests_behind k script))
 
 -- whether a script that goes on for so many lines has the line that is asked for
 abbrev pub has_line : ℕ → Option ℕ → Bool

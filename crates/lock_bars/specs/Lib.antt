@@ -1,3 +1,4 @@
 pub mod Holds
 pub mod Bars
 pub mod Courses
+pub mod Lanes

@@ -7,7 +7,7 @@ ghost use Rattle.queue_script.specs.QueueScripts.{effect_of, call_effect, unless
 ghost use Rattle.script_io.specs.declared.endings.Ending.TheVariants as ending;
 ghost use Rattle.script_io.specs.declared.endings.SourceFault.{SourceFault};
 ghost use Rattle.lock_queue.specs.WellFormed.{is_call};
-ghost use Rattle.lock_bars.specs.Courses.{course_of, has_line, requests_after, IsFaultOf};
+ghost use Rattle.lock_bars.specs.Courses.{course_of, has_line, line_columns, requests_after, IsFaultOf};
 ghost use Rattle.wait_graph.specs.Graphs.{Shows};
 ghost use Rattle.lock_bars.specs.declared.errors.TheConstants.{MOST_LINES};
 
@@ -72,6 +72,7 @@ pub fn watch_queue<L: LockTable>(
     ensures bars { IfOk result (λ seen. seen.bars.items ≡ (course_of L.REQS [] 0 (lines script.now) []).bars) }
     ensures lines { IfOk result (λ seen. seen.lines ≡ (course_of L.REQS [] 0 (lines script.now) []).lines) }
     ensures columns { IfOk result (λ seen. length seen.columns.items ≡ seen.lines) }
+    ensures named { IfOk result (λ seen. seen.columns.items ≡ line_columns seen.lines) }
     ensures done { IfOk result (λ seen. (course_of L.REQS [] 0 (lines script.now) []).ending ≡ ending.Done) }
     ensures few { IfOk result (λ seen. seen.lines ≤ MOST_LINES) }
     ensures waits { IfOk result (λ seen. IfSome seen.waits (λ w. (at ≡ Some w.1)

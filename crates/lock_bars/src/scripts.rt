@@ -1,10 +1,11 @@
 //! The pictures of scripts.
-ghost use Rattle.std.specs.Prelude.{◌≡◌, ◌⊎◌, None, IfOk, IfErr, IfSome, IsSome, length, unwrap_or, true};
+ghost use Rattle.std.specs.Prelude.{◌≡◌, ◌⊎◌, None, IfOk, IfErr, IfSome, IsSome, length, map, unwrap_or, true};
 ghost use Rattle.std.specs.Str.Lines.{lines};
 ghost use Rattle.queue_script.specs.QueueScripts.{transcript};
 ghost use Rattle.script_io.specs.declared.endings.Ending.TheVariants as ending;
 ghost use Rattle.wait_graph.specs.Graphs.{Shows};
-ghost use Rattle.lock_bars.specs.Courses.{course, has_line, requests_behind, IsFaultOf};
+ghost use Rattle.lock_bars.specs.Courses.{course, has_line, line_columns, requests_behind, IsFaultOf, Lasts};
+ghost use Rattle.lock_bars.specs.Lanes.{lanes_of, row_of};
 
 use crate::arrows::arrows_in;
 use crate::course::Course;
@@ -27,6 +28,7 @@ pub fn drawing_of<L: LockTable>(
 ) -> Result<Drawing, ScriptError>
     ensures columns { IfOk result (λ drawing. drawing.columns ≡ seen.columns) }
     ensures bars { IfOk result (λ drawing. drawing.bars ≡ seen.bars) }
+    ensures lanes { IfOk result (λ drawing. map row_of drawing.lanes.items ≡ lanes_of seen.bars.items) }
     ensures asked { IfOk result (λ drawing. IfSome seen.waits (λ w. (drawing.graph ≡ w.0) × (drawing.at_column ≡ w.1))) }
     ensures end { IfOk result (λ drawing. seen.waits ≡ None
         → Shows (L.requests table.now) drawing.graph × (drawing.at_column ≡ length seen.columns.items)) }
@@ -69,6 +71,9 @@ pub fn drawing_of<L: LockTable>(
 pub fn draw_script(alloc: Global, script: &[u8], at: Option<usize>) -> Result<Drawing, ScriptError>
     ensures bars { IfOk result (λ drawing. drawing.bars.items ≡ (course script.now).bars) }
     ensures columns { IfOk result (λ drawing. length drawing.columns.items ≡ (course script.now).lines) }
+    ensures named { IfOk result (λ drawing. drawing.columns.items ≡ line_columns (course script.now).lines) }
+    ensures lanes { IfOk result (λ drawing. map row_of drawing.lanes.items ≡ lanes_of (course script.now).bars) }
+    ensures lasts { Lasts (course script.now) script.now }
     ensures done { IfOk result (λ drawing. (course script.now).ending ≡ ending.Done) }
     ensures waits { IfOk result (λ drawing. Shows (requests_behind drawing.at script.now) drawing.graph) }
     ensures at { IfOk result (λ drawing. drawing.at ≡ unwrap_or at (course script.now).lines) }

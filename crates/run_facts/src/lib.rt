@@ -9,7 +9,7 @@ mod statuses;
 mod typing;
 
 pub use answers::{CallAnswer, CallSeen, answer_of};
-pub use grants::{is_granted_in, is_left_of, is_new_grant};
+pub use grants::{is_granted_in, is_left_of, is_new_grant, waiting_id};
 pub use standing::{Ending, Standing, has_ended_well, status_of};
 pub use statuses::{CIRCLE, CUT, DONE, FAULT, REFUSED};
 pub use typing::{Target, target_of};

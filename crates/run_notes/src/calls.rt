@@ -1,18 +1,22 @@
 //! Lock calls, reported as they are made.
 
+ghost use Rattle.std.specs.Prelude.{◌≡◌, IfSome};
+ghost use Rattle.lock_queue.specs.Refusals.{code_of};
+
 use crate::block_words::core_for_block;
 use crate::locks::LockText;
 use crate::snapshot::Snapshot;
 use call_block::{Block, read_block};
 use concrete_machine::Machine;
 use job_sched::{NO_FLAGS, Wait};
-use ka_cpu::{CoreWords, Regs};
+use ka_cpu::{Accumulator, CallKind, CoreWords, Regs};
 use ka_isa::{Family, classify, decode};
-use lock_queue::{BlockUse, Name, Request, Want};
+use lock_queue::{BlockUse, Name, Refusal, Request, Want};
 use monitor::JobView;
 use run_facts::{CallAnswer, CallSeen, answer_of};
 use std::alloc::{AllocError, Global};
 use std::fmt;
+use uuo_calls::{Service, service_of};
 use word36::{Address, Word};
 
 /// A call on the lock queue.
@@ -24,6 +28,20 @@ enum LockService {
 }
 
 impl LockService {
+    /// The lock call of an instruction with this effective address, if it makes one.
+    fn of(instruction: Word, address: Address) -> Option<Self> {
+        let fields = decode(instruction);
+        if classify(fields.op) != Family::Calli {
+            return None;
+        }
+        match service_of(CallKind::Calli, Accumulator::new(fields.ac), address) {
+            Service::Enq => Some(LockService::Enq),
+            Service::Deq => Some(LockService::Deq),
+            Service::Enqc => Some(LockService::Enqc),
+            _ => None,
+        }
+    }
+
     fn name(self) -> &'static str {
         match self {
             LockService::Enq => "ENQ.",
@@ -142,20 +160,18 @@ impl PendingCall {
         number: u8,
         before: &Snapshot,
     ) -> Result<Option<Self>, AllocError> {
-        let fields = decode(before.executed);
-        if classify(fields.op) != Family::Calli {
+        let Some(address) = before.address else {
             return Ok(None);
-        }
-        let service = match before.address {
-            Some(0o151) => LockService::Enq,
-            Some(0o152) => LockService::Deq,
-            Some(0o153) => LockService::Enqc,
-            _ => return Ok(None),
         };
-        let asked = before.registers[usize::from(fields.ac)];
+        let address = Address::new(address & 0o777_777);
+        let Some(service) = LockService::of(before.executed, address) else {
+            return Ok(None);
+        };
+        let ac = decode(before.executed).ac;
+        let asked = before.registers[usize::from(ac)];
         Ok(Some(PendingCall {
             service,
-            ac: fields.ac,
+            ac,
             asked,
             block: block_of(alloc, machine, number, before, service, asked)?,
         }))
@@ -199,28 +215,69 @@ fn has_name(wants: &[Want], name: &Name) -> bool {
     false
 }
 
-/// What a refusal's code means.
+/// All refusals, in the order of their codes.
+const REFUSALS: [Refusal; 18] = [
+    Refusal::NotGranted,
+    Refusal::NoFunction,
+    Refusal::BadBlock,
+    Refusal::BadCount,
+    Refusal::BadPointer,
+    Refusal::BadName,
+    Refusal::BadQualifier,
+    Refusal::BadPool,
+    Refusal::Differs,
+    Refusal::LevelOrder,
+    Refusal::NamedAlready,
+    Refusal::NotPresent,
+    Refusal::WouldLose,
+    Refusal::QueueFull,
+    Refusal::NoVector,
+    Refusal::OverQuota,
+    Refusal::TimedOut,
+    Refusal::NoSuchQuota,
+];
+
+/// The refusal of a code, if there is one.
+fn refusal_of(code: u32) -> Option<Refusal>
+    ensures { IfSome result (λ refusal. code_of refusal ≡ code) }
+{
+    for refusal in REFUSALS {
+        if u32::from(refusal.code()) == code {
+            return Some(refusal);
+        }
+    }
+    None
+}
+
+/// What a refusal means.
+fn meaning_of(refusal: Refusal) -> &'static str {
+    match refusal {
+        Refusal::NotGranted => "not granted at once",
+        Refusal::NoFunction => "no such function",
+        Refusal::BadBlock => "the block is not in memory, or its head is wrong",
+        Refusal::BadCount => "no lock, or more than 16",
+        Refusal::BadPointer => "neither a user code nor a pointer to a name",
+        Refusal::BadName => "an empty name, or one of more than 30 characters",
+        Refusal::BadQualifier => "no such qualifier",
+        Refusal::BadPool => "a pool or a group that makes no sense",
+        Refusal::Differs => "another level, or another pool, than those present have",
+        Refusal::LevelOrder => "the level is not above those before it",
+        Refusal::NamedAlready => "named already",
+        Refusal::NotPresent => "not present",
+        Refusal::WouldLose => "the change would take a grant away",
+        Refusal::QueueFull => "the queue is full",
+        Refusal::NoVector => "there is no interrupt vector",
+        Refusal::OverQuota => "the job has as many requests as it may have",
+        Refusal::TimedOut => "its time limit ended",
+        Refusal::NoSuchQuota => "no such job, or the quota would be greater",
+    }
+}
+
+/// What the code of a refused call means.
 fn code_meaning(code: u32) -> &'static str {
-    match code {
-        1 => "not granted at once",
-        2 => "no such function",
-        3 => "the block is not in memory, or its head is wrong",
-        4 => "no lock, or more than 16",
-        5 => "neither a user code nor a pointer to a name",
-        6 => "an empty name, or one of more than 30 characters",
-        7 => "no such qualifier",
-        8 => "a pool or a group that makes no sense",
-        9 => "another level, or another pool, than those present have",
-        10 => "the level is not above those before it",
-        11 => "named already",
-        12 => "not present",
-        13 => "the change would take a grant away",
-        14 => "the queue is full",
-        15 => "there is no interrupt vector",
-        16 => "the job has as many requests as it may have",
-        17 => "its time limit ended",
-        18 => "no such job, or the quota would be greater",
-        _ => "no such code",
+    match refusal_of(code) {
+        Some(refusal) => meaning_of(refusal),
+        None => "no such code",
     }
 }
 

@@ -1,29 +1,42 @@
 //! Circles of waits, in words.
+ghost use Rattle.std.specs.Prelude.{◌≡◌, ◌≤◌, None, Some, false, slice_get, IfOk, IfSome};
+ghost use Rattle.std.specs.List.{list_any};
+ghost use Rattle.lock_queue.specs.Jobs.{waits_for};
+ghost use Rattle.lock_queue.specs.Waits.{is_in_circle, jobs};
+ghost use Rattle.word36.specs.declared.sizes.TheConstants.{JOBS};
 
 use crate::locks::NameText;
 use concrete_machine::Machine;
 use lock_queue::Request;
 use std::alloc::{AllocError, Global};
-use wait_graph::{LockBetween, circle_through, is_in_circle, lock_between};
+use wait_graph::{LockBetween, NUMBERS, circle_through, is_in_circle, lock_between};
 use word36::JOBS;
 
 /// The circle of waits that a job is in, if it is in one: each job of it waits for the next, and the last for the
 /// first.
-pub fn circle_of(alloc: Global, machine: &Machine, job: u8) -> Result<Option<Vec<u8>>, AllocError> {
+pub fn circle_of(alloc: Global, machine: &Machine, job: u8) -> Result<Option<Vec<u8>>, AllocError>
+    ensures through { IfOk result (λ o. IfSome o (λ circle. slice_get circle.items 0 ≡ Some job)) }
+    ensures none { IfOk result (λ o. o ≡ None → job ≤ JOBS → is_in_circle (waits_for machine.now.world.requests) job ≡ false) }
+{
     let waiting = machine.waiting_jobs();
     let pairs = machine.pair_table(&waiting);
-    if job > JOBS || !is_in_circle(&pairs, &waiting, usize::from(job)) {
+    if job > JOBS {
+        return Ok(None);
+    }
+    if !is_in_circle(&pairs, &waiting, usize::from(job)) {
         return Ok(None);
     }
     circle_through(alloc, &pairs, job)
 }
 
 /// Whether some job is in a circle of waits.
-pub fn has_circle(machine: &Machine) -> bool {
+pub fn has_circle(machine: &Machine) -> bool
+    ensures { result ≡ list_any (is_in_circle (waits_for machine.now.world.requests)) jobs }
+{
     let waiting = machine.waiting_jobs();
     let pairs = machine.pair_table(&waiting);
-    for job in 0..=JOBS {
-        if is_in_circle(&pairs, &waiting, usize::from(job)) {
+    for job in 1..NUMBERS {
+        if is_in_circle(&pairs, &waiting, job) {
             return true;
         }
     }

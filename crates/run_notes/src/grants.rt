@@ -1,36 +1,32 @@
 //! Grants and ended time limits, reported as they come.
+ghost use Rattle.std.specs.Prelude.{◌≡◌, IfOk, string_bytes};
+ghost use Rattle.run_facts.specs.Grants.{waiting_id};
+ghost use Rattle.run_notes.specs.Words.{limit_words};
 
 use crate::calls::{IdText, push_wants};
-use lock_queue::{EnqueueKind, Request};
-use run_facts::is_new_grant;
+use lock_queue::Request;
+use run_facts::{is_new_grant, waiting_id};
 use std::alloc::{AllocError, Global};
 
-/// The id of a job's last request that waits.
-fn waiting_id(requests: &[Request], number: u8) -> Option<IdText> {
-    let mut id = None;
-    for request in requests {
-        if request.job == number && request.kind == EnqueueKind::Blocking {
-            id = Some(IdText(request.id.number()));
-        }
-    }
-    id
-}
-
-/// The line on a job whose time limit ended: its waiting request, which was present before, is gone.
+/// The line on a job whose time limit ended: the request by which it waited before is gone.
 pub fn limit_line(
     alloc: Global,
     tick: u64,
     number: u8,
     before: &[Request],
-) -> Result<String, AllocError> {
-    let head = "time limit ended";
+) -> Result<String, AllocError>
+    ensures { IfOk result (λ text. string_bytes text ≡ limit_words tick number (waiting_id before.now number)) }
+{
     match waiting_id(before, number) {
         Some(id) => {
+            let id = id.number();
             format!(in alloc;
-                "tick {tick}, job {number}: {head}, request {id}, code 17 (21 octal)\n"
+                "tick {tick}, job {number}: time limit ended, request {id}., code 17 (21 octal)\n"
             )
         }
-        None => format!(in alloc; "tick {tick}, job {number}: {head}, code 17 (21 octal)\n"),
+        None => format!(in alloc;
+            "tick {tick}, job {number}: time limit ended, code 17 (21 octal)\n"
+        ),
     }
 }
 

@@ -79,11 +79,11 @@ pub any-same : (f g : ℕ → Bool) → ((m : ℕ) → m < NUMBERS → f m ≡ g
 unfolding jobs
 any-same f g same = any-same_from f g JOBS 1 (omega arith) same
 
-or-left : (a b : Bool) → (a || b) ≡ false → a ≡ false
+pub or-left : (a b : Bool) → (a || b) ≡ false → a ≡ false
 or-left true b h = h
 or-left false b h = refl
 
-or-right : (a b : Bool) → (a || b) ≡ false → b ≡ false
+pub or-right : (a b : Bool) → (a || b) ≡ false → b ≡ false
 or-right true b h = cc
 or-right false b h = h
 

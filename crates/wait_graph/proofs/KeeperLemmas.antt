@@ -1,16 +1,17 @@
 -- Lemmas on the jobs that keep another waiting.
-use Rattle.std.proofs.Common.{◌≡◌, ◌&&◌, ◌||◌, ◌++◌, ◌∙◌, ◌≤◌, ◌==◌, ℕ, Bool, true, false, cond, List, [], ◌∷◌, All, length, drop, refl, subst, sym, ap, arith}
+use Rattle.std.proofs.Common.{◌≡◌, ◌&&◌, ◌||◌, ◌++◌, ◌+◌, ◌∙◌, ◌<◌, ◌≤◌, ◌==◌, ℕ, Bool, true, false, cond, List, [], ◌∷◌, All, length, drop, take, get_or, Some, refl, subst, sym, ap, arith, append_assoc, append-nil}
 use Rattle.std.proofs.lemmas.Bool.{and_from, false_from_ne_true, or_left, or_right}
 use Rattle.std.proofs.lemmas.Bool.Decides.{nat_tests}
-use Rattle.std.proofs.lemmas.List.{drop_all}
+use Rattle.std.proofs.lemmas.List.{drop_all, drop_more, take_more}
 use Rattle.std.proofs.lemmas.List.Elements.{All-append, All-cons, All-nil}
-use Rattle.std.specs.List.{flat_map, list_any}
+use Rattle.std.specs.List.{find, flat_map, list_any}
 use Rattle.lock_queue.specs.declared.request.Request.{Request}
 use Rattle.lock_queue.specs.declared.want.Want.{Want}
 use Rattle.lock_queue.specs.Jobs.{is_blocked, waits_for}
 use Rattle.lock_queue.specs.Queue.{some_behind}
 use Rattle.lock_queue.specs.Waits.{jobs, waits_hard_for}
 use Rattle.wait_graph.specs.LockWaits.{has_keeper, is_kept_from, is_kept_waiting, keeper, keepers, keeps, waits_by, waits_for_owner}
+use Rattle.wait_graph.proofs.JobLemmas.{or-left, or-right}
 use Rattle.wait_graph.proofs.TestLemmas.{and_more, from_or}
 
 -- a job is waited for by another
@@ -52,6 +53,32 @@ none_keep is_held requests job earlier w (j ∷ js) h =
     ap (λ b. b || list_any (λ other. waits_by is_held requests job other && keeps is_held earlier w other) js) apart.0
     ∙ none_keep is_held requests job earlier w js apart.1
 
+some_or_more : (test more : Bool) (other : ℕ) (found : List ℕ) → ((found ≡ [] → ⊥) → more ≡ true)
+    → (cond test (other ∷ []) [] ++ found ≡ [] → ⊥) → (test || more) ≡ true
+some_or_more true more other found later some = refl
+some_or_more false more other found later some = later some
+
+some_keep : (is_held : Bool) (requests : List Request) (job : ℕ) (earlier : List Request) (w : Want) (js : List ℕ)
+    → (flat_map (keeper is_held requests job earlier w) js ≡ [] → ⊥)
+    → list_any (λ other. waits_by is_held requests job other && keeps is_held earlier w other) js ≡ true
+some_keep is_held requests job earlier w [] some = absurd (some refl)
+some_keep is_held requests job earlier w (j ∷ js) some =
+    some_or_more (waits_by is_held requests job j && keeps is_held earlier w j)
+    (list_any (λ other. waits_by is_held requests job other && keeps is_held earlier w other) js) j
+    (flat_map (keeper is_held requests job earlier w) js) (some_keep is_held requests job earlier w js) some
+
+-- where jobs are found that keep a want from fitting, there are some
+pub some_keeper : (found : List ℕ) (is_held : Bool) (requests : List Request) (job : ℕ) (earlier : List Request) (w : Want)
+    → found ≡ keepers is_held requests job earlier w → (found ≡ [] → ⊥) → has_keeper is_held requests job earlier w ≡ true
+some_keeper found is_held requests job earlier w is some = some_keep is_held requests job earlier w jobs (λ none. some (is ∙ none))
+
+-- the first want from a place on for which a test holds is the one there, where it holds for this
+pub find_here : (test : Want → Bool) (ws : List Want) (i : ℕ) (w : Want) → i < length ws → w ≡ get_or ws i w → test w ≡ true
+    → find test (drop i ws) ≡ Some w
+find_here test ws i w within is holds =
+    ap (find test) (drop_more ws i w within ∙ ap (λ y. y ∷ drop (i + 1) ws) (sym is))
+    ∙ ap (λ b. cond b (Some w) (find test (drop (i + 1) ws))) holds
+
 pub none_found : (found : List ℕ) → (length found == 0) ≡ true → found ≡ []
 none_found [] h = refl
 none_found (j ∷ more) h = absurd (grind (arith, nat_tests))
@@ -60,6 +87,32 @@ none_found (j ∷ more) h = absurd (grind (arith, nat_tests))
 pub no_keepers : (found : List ℕ) (is_held : Bool) (requests : List Request) (job : ℕ) (earlier : List Request) (w : Want)
     → found ≡ keepers is_held requests job earlier w → found ≡ [] → has_keeper is_held requests job earlier w ≡ false
 no_keepers found is_held requests job earlier w is none = none_keep is_held requests job earlier w jobs (sym is ∙ none)
+
+-- where a test holds for none of some requests, and not for the one behind them, it holds for none of all these
+none_last : (f : List Request → Request → Bool) (e sofar : List Request) (r : Request) → some_behind f e sofar ≡ false
+    → f (e ++ sofar) r ≡ false → some_behind f e (sofar ++ r ∷ []) ≡ false
+none_last f e [] r none fails = ap (λ b. b || false) (ap (λ l. f l r) (sym (append-nil e)) ∙ fails)
+none_last f e (s ∷ sofar) r none fails =
+    ap (λ b. b || some_behind f (e ++ s ∷ []) (sofar ++ r ∷ [])) (or-left (f e s) (some_behind f (e ++ s ∷ []) sofar) none)
+    ∙ none_last f (e ++ s ∷ []) sofar r (or-right (f e s) (some_behind f (e ++ s ∷ []) sofar) none)
+    (ap (λ l. f l r) (append_assoc e (s ∷ []) sofar) ∙ fails)
+
+pub none_further : (f : List Request → Request → Bool) (requests : List Request) (i : ℕ) (r : Request) → i < length requests
+    → r ≡ get_or requests i r → f (take i requests) r ≡ false → some_behind f [] (take i requests) ≡ false
+    → some_behind f [] (take (i + 1) requests) ≡ false
+none_further f requests i r within is fails none =
+    ap (λ l. some_behind f [] l) (take_more requests i r within ∙ ap (λ y. take i requests ++ y ∷ []) (sym is))
+    ∙ none_last f [] (take i requests) r none fails
+
+-- whether it holds for one from a position on is whether it holds for one behind that
+pub rest_further : (f : List Request → Request → Bool) (requests : List Request) (i : ℕ) (r : Request) (all : Bool) → i < length requests
+    → r ≡ get_or requests i r → f (take i requests) r ≡ false → some_behind f (take i requests) (drop i requests) ≡ all
+    → some_behind f (take (i + 1) requests) (drop (i + 1) requests) ≡ all
+rest_further f requests i r all within is fails before =
+    ap (λ l. some_behind f l (drop (i + 1) requests)) (take_more requests i r within ∙ ap (λ y. take i requests ++ y ∷ []) (sym is))
+    ∙ sym (ap (λ l. some_behind f (take i requests) l) (drop_more requests i r within ∙ ap (λ y. y ∷ drop (i + 1) requests) (sym is))
+    ∙ ap (λ b. b || some_behind f (take i requests ++ r ∷ []) (drop (i + 1) requests)) fails)
+    ∙ before
 
 -- where a test holds for no request from a position on, and none is there, it holds for none at all
 pub behind_end : (f : List Request → Request → Bool) (e requests : List Request) (i : ℕ) → length requests ≤ i

@@ -1,7 +1,7 @@
 -- Which jobs keep a job waiting, and from which lock: owners of what it wants or, where nobody owns it, those that
 -- asked before it (this project's profile).
-use Rattle.std.specs.Prelude.{◌&&◌, ℕ, Bool, List, [], ◌∷◌, if◌then◌else◌}
-use Rattle.std.specs.List.{flat_map, list_any}
+use Rattle.std.specs.Prelude.{◌&&◌, ℕ, Bool, List, [], ◌∷◌, Option, Some, None, if◌then◌else◌, slice_get, take}
+use Rattle.std.specs.List.{find, flat_map, list_any}
 use Rattle.lock_queue.specs.declared.request.Request.{Request}
 use Rattle.lock_queue.specs.declared.want.Want.{Want}
 use Rattle.lock_queue.specs.Jobs.{is_blocked, is_kept_by, waits_for}
@@ -42,3 +42,21 @@ is_kept_waiting is_held requests job earlier r =
 abbrev pub is_kept_from : Bool → ℕ → ℕ → List Request → Request → Bool
 is_kept_from is_held job other earlier r =
     is_blocked job earlier r && list_any (λ w. keeps is_held earlier w other) r.wants.items
+
+-- the first want of a request from which one of the jobs for which its job waits keeps it, where it waits by the request
+abbrev pub want_waited_for : Bool → List Request → ℕ → List Request → Request → Option Want
+want_waited_for is_held requests job earlier r =
+    if is_blocked job earlier r then find (has_keeper is_held requests job earlier) r.wants.items else None
+
+-- the same of one other job
+abbrev pub want_kept : Bool → ℕ → ℕ → List Request → Request → Option Want
+want_kept is_held job other earlier r =
+    if is_blocked job earlier r then find (λ w. keeps is_held earlier w other) r.wants.items else None
+
+-- such a want of the request at a position, if there is one
+abbrev pub want_in : (List Request → Request → Option Want) → List Request → Option Request → Option Want
+want_in wanted earlier None = None
+want_in wanted earlier (Some r) = wanted earlier r
+
+abbrev pub want_at : (List Request → Request → Option Want) → List Request → ℕ → Option Want
+want_at wanted requests position = want_in wanted (take position requests) (slice_get requests position)

@@ -1,10 +1,12 @@
 //! By which lock a job waits, and who keeps it waiting.
 ghost use Rattle.std.specs.Prelude.{◌≡◌, ◌≢◌, ◌≤◌, [], ◌++◌};
-ghost use Rattle.std.specs.Prelude.{All, None, true, false, length, take, IfOk, IfSome, OnOk};
+ghost use Rattle.std.specs.Prelude.{All, None, Some, true, false, length, take, IfOk, IfSome, OnOk};
 ghost use Rattle.std.specs.List.{list_any};
 ghost use Rattle.lock_queue.specs.Jobs.{waits_for};
+ghost use Rattle.lock_queue.specs.Queue.{some_behind};
 ghost use Rattle.lock_queue.specs.Waits.{jobs, waits_hard_for};
-ghost use Rattle.wait_graph.specs.LockWaits.{is_kept_from, is_kept_waiting, keeper, keepers, keeps, waits_by, waits_for_owner};
+ghost use Rattle.wait_graph.specs.LockWaits.{is_kept_from, is_kept_waiting, keeper, keepers, keeps};
+ghost use Rattle.wait_graph.specs.LockWaits.{want_at, want_kept, want_waited_for, waits_by, waits_for_owner};
 
 use crate::in_the_way::{keeps, waits_by};
 use crate::pairs::NUMBERS;
@@ -88,6 +90,8 @@ fn wait_at<'a>(
     ensures position { IfOk result (λ o. IfSome o (λ w. w.position ≡ position)) }
     ensures jobs { IfOk result (λ o. IfSome o (λ w.
         w.jobs.items ≡ keepers w.is_held requests.now job (take position requests.now) w.want.now)) }
+    ensures lock { IfOk result (λ o. IfSome o (λ w.
+        want_waited_for w.is_held requests.now job (take position requests.now) r.now ≡ Some w.want.now)) }
     ensures none { IfOk result (λ o. o ≡ None
         → is_kept_waiting (waits_for_owner requests.now job) requests.now job (take position requests.now) r.now ≡ false) }
 {
@@ -109,7 +113,8 @@ fn wait_at<'a>(
     Ok(None)
 }
 
-/// What a job waits for, if it waits for others. The jobs that keep it waiting own the lock where the job
+/// What a job waits for, if it waits for others: by its first request by which others keep it waiting, and the first
+/// lock of this request from which they keep it. The jobs that keep it waiting own the lock where the job
 /// waits for any owner; else they asked for the lock before it.
 #[tactic(auto, using(crate::proofs::KeeperLemmas::keepers_are_waited_for))]
 pub fn lock_wait<'a>(
@@ -122,6 +127,10 @@ pub fn lock_wait<'a>(
     ensures waits { IfOk result (λ o. IfSome o (λ w. All (λ other. waits_by w.is_held requests.now job other ≡ true) w.jobs.items)) }
     ensures jobs { IfOk result (λ o. IfSome o (λ w.
         w.jobs.items ≡ keepers w.is_held requests.now job (take w.position requests.now) w.want.now)) }
+    ensures lock { IfOk result (λ o. IfSome o (λ w.
+        want_at (want_waited_for w.is_held requests.now job) requests.now w.position ≡ Some w.want.now)) }
+    ensures first { IfOk result (λ o. IfSome o (λ w.
+        some_behind (is_kept_waiting w.is_held requests.now job) [] (take w.position requests.now) ≡ false)) }
     ensures none { IfOk result (λ o. o ≡ None → list_any (waits_for requests.now job) jobs ≡ false) }
 {
     for (i, r) in requests.iter().enumerate() {
@@ -152,6 +161,7 @@ fn kept_want<'a>(
     is_held: bool,
 ) -> Option<&'a Want>
     ensures keeps { IfSome result (λ w. keeps is_held earlier.now w.now other ≡ true) }
+    ensures lock { IfSome result (λ w. want_kept is_held job other earlier.now r.now ≡ Some w.now) }
     ensures none { result ≡ None → is_kept_from is_held job other earlier.now r.now ≡ false }
 {
     if !is_blocked(earlier, r, job) {
@@ -165,10 +175,12 @@ fn kept_want<'a>(
     None
 }
 
-/// The first lock from which `other` keeps `job`, where `job` waits for it.
+/// The first lock from which `other` keeps `job`, where `job` waits for it: a lock of a request by which `job` waits.
 pub fn lock_between(requests: &[Request], job: u8, other: u8) -> Option<LockBetween<'_>>
     ensures held { IfSome result (λ b. b.is_held ≡ waits_hard_for requests.now job other) }
     ensures keeps { IfSome result (λ b. keeps b.is_held (take b.position requests.now) b.want.now other ≡ true) }
+    ensures lock { IfSome result (λ b. want_at (want_kept b.is_held job other) requests.now b.position ≡ Some b.want.now) }
+    ensures first { IfSome result (λ b. some_behind (is_kept_from b.is_held job other) [] (take b.position requests.now) ≡ false) }
     ensures none { result ≡ None → waits_for requests.now job other ≡ false }
 {
     let is_held = waits_by(requests, job, other, true);

@@ -7,7 +7,7 @@ use Rattle.queue_script.specs.QueueScripts.{effect_of}
 use Rattle.queue_script.proofs.WellFormedLemmas.{line-right}
 use Rattle.lock_bars.specs.Courses.{has_line, requests_after}
 use Rattle.lock_bars.specs.declared.errors.TheConstants.{MOST_LINES}
-use Rattle.lock_bars.proofs.CourseLemmas.{behind_next, behind_now, kept_next, passed_next, seen_least}
+use Rattle.lock_bars.proofs.CourseLemmas.{behind_next, behind_now, columns_next, kept_next, passed_next, seen_least}
 use Rattle.lock_bars.proofs.queue_course.watch_queue.Goals as goal
 
 pub follow-requires : goal.follow-requires
@@ -55,6 +55,8 @@ loop-line-preserved g c =
     record {
       few = omega arith;
       columns = search rules;
+      named = columns_next n c.end_line.new.self.lines c.loop-line.seen.columns.items c.look.new.self.columns.items c.end_line.new.self.columns.items
+          c.of_line.result counted c.of_line.ensures looked.columns (ap (λ v. v.items) ended.columns) known.named;
       count = search rules;
       course = search rules;
       behind = behind;

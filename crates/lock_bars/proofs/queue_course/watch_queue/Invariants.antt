@@ -2,7 +2,7 @@
 use Rattle.std.proofs.Common.{◌≡◌, ◌≤◌, ◌+◌, ℕ, [], is_some, length}
 use Rattle.std.specs.Str.Lines.{lines}
 use Rattle.lock_bars.proofs.CourseLemmas.{Kept}
-use Rattle.lock_bars.specs.Courses.{course_of, has_line, requests_after}
+use Rattle.lock_bars.specs.Courses.{course_of, has_line, line_columns, requests_after}
 use Rattle.lock_bars.specs.declared.errors.TheConstants.{MOST_LINES}
 use Rattle.lock_bars.proofs.queue_course.watch_queue.Given as goal
 
@@ -10,6 +10,7 @@ abbrev pub invariant-loop-line : goal.invariant-loop-line
 invariant-loop-line g l = record {
   few : l.seen.lines ≤ MOST_LINES;
   columns : length l.seen.columns.items ≡ l.seen.lines;
+  named : l.seen.columns.items ≡ line_columns l.seen.lines;
   count : l.seen.lines + length l.lines ≡ length (lines l.script);
   course : course_of g.L.LockTable.REQS (g.L.LockTable.requests l.table) l.seen.lines l.lines l.seen.bars.items
       ≡ course_of g.L.LockTable.REQS [] 0 (lines l.script) [];

@@ -3,6 +3,9 @@ use Rattle.std.proofs.lemmas.Result.{IfErr-weaker, IfOk-weaker}
 use Rattle.std.specs.Str.Lines.{lines}
 use Rattle.lock_bars.specs.Courses.{course, has_line, requests_behind}
 use Rattle.wait_graph.specs.Graphs.{Shows}
+use Rattle.lock_bars.specs.Courses.{line_columns}
+use Rattle.lock_bars.specs.Lanes.{lanes_of}
+use Rattle.lock_bars.proofs.BarLemmas.{bars_last}
 use Rattle.lock_bars.proofs.CourseLemmas.{both_ok, drawn, script_ends, short_fault}
 use Rattle.lock_bars.proofs.scripts.draw_script.Goals as goal
 
@@ -66,3 +69,20 @@ returns-clause-fault c =
 
 pub returns-clause-ends : goal.returns-clause-ends
 returns-clause-ends c = script_ends c.args.script.now
+
+pub returns-in_err-table-clause-lasts : goal.returns-in_err-table-clause-lasts
+returns-in_err-table-clause-lasts c = bars_last c.args.script.now
+
+pub returns-in_err-seen-clause-lasts : goal.returns-in_err-seen-clause-lasts
+returns-in_err-seen-clause-lasts c = bars_last c.args.script.now
+
+pub returns-clause-lasts : goal.returns-clause-lasts
+returns-clause-lasts c = bars_last c.args.script.now
+
+pub returns-clause-named : goal.returns-clause-named
+returns-clause-named c =
+    let seen = c.in_ok-seen.ensures in
+    IfOk-weaker c.drawing_of.result _ _ (λ drawing same. ap (λ v. v.items) same ∙ seen.named ∙ ap line_columns seen.lines) c.drawing_of.ensures.columns
+
+pub returns-clause-lanes : goal.returns-clause-lanes
+returns-clause-lanes c = IfOk-weaker c.drawing_of.result _ _ (λ drawing same. same ∙ ap lanes_of c.in_ok-seen.ensures.bars) c.drawing_of.ensures.lanes
