@@ -1,8 +1,7 @@
 //! The command line.
 
 use clap::{Arg, ArgMatches, Command};
-use image_files::Packing;
-use image_service::Form;
+use image_files::{Packing, packing_named};
 use mac_source::Shown;
 use program_shell::{Refusal, Wrong, make_flag, make_top, matches_of, refused};
 use std::alloc::{AllocError, Global};
@@ -11,32 +10,49 @@ use std::convert::AsStr;
 /// A command of the program.
 #[derive(Clone, Copy, Debug, PartialEq, Eq, Drop)]
 pub enum ImageCommand {
-    /// `words`: words in another form.
-    Words { from: Packing, to: Form },
+    /// `words`: words in another packing.
+    Words { from: Packing, to: Packing },
     /// `source`: the source of a core image.
     Source { from: Packing, shown: Shown },
     /// `save`: the core image of a source.
-    Save { to: Form },
+    Save { to: Packing },
     /// `list`: the words of a core image.
     List { from: Packing },
+}
+
+/// What the arguments ask for.
+#[derive(Drop)]
+pub struct Options {
+    /// What is done.
+    pub command: ImageCommand,
+    /// The file of the input, where it is not standard input.
+    pub input: Option<String>,
+    /// The file of the output, where it is not standard output.
+    pub output: Option<String>,
 }
 
 const ABOUT: &str =
     "Reads and writes programs as files of 36-bit words: core images, packings, and sources.";
 
-const END: &str = "Each command reads standard input and writes standard output, as in:\n\
-    image source --from core < prog.sav > prog.mac\n\
+const END: &str =
+    "Each command reads FILE or standard input, and writes standard output or the file of --output, as in:\n\
+    image source --from core prog.sav --output prog.mac\n\
     Forms: core (core dump, 5 bytes a word), dense (9 bytes for 2 words), ascii (5 characters of 7\n\
-    bits), simh (8 bytes a word), and to write also octal (a line a word).\n\
+    bits), simh (8 bytes a word), octal (text, a line a word).\n\
     Status: 0 all done, 1 the input was refused, 2 wrong words, 3 reading, writing or memory failed.";
 
-const FROM: &str = "how the words of the input are packed: core, dense, ascii or simh";
+const FROM: &str = "how the words of the input are packed: core, dense, ascii, simh or octal";
 
 /// What is wrong with a form of another name.
 const WRONG_FORM: &str =
-    "invalid value for '--from <FORM>' or '--to <FORM>': core, dense, ascii or simh is wanted, or octal to write";
+    "invalid value for '--from <FORM>' or '--to <FORM>': core, dense, ascii, simh or octal is wanted";
 
-const TO: &str = "the form of the output: core, dense, ascii, simh or octal";
+const TO: &str = "how the words of the output are packed: core, dense, ascii, simh or octal";
+
+const INPUT: &str = "the input, and not standard input";
+
+const OUTPUT: &str =
+    "write to FILE, in place of what is there, once all is done, and not to standard output";
 
 /// An option that names a form.
 fn make_form<'a>(alloc: Global, name: &'a str, help: &'a str) -> Arg<'a> {
@@ -47,11 +63,22 @@ fn make_form<'a>(alloc: Global, name: &'a str, help: &'a str) -> Arg<'a> {
         .required(true)
 }
 
+/// A command with the files that it may name.
+fn with_files<'a>(alloc: Global, command: Command<'a>) -> Result<Command<'a>, AllocError> {
+    let with_output = command.arg(
+        Arg::new(alloc, "output")
+            .long("output")
+            .value_name("FILE")
+            .help(OUTPUT),
+    )?;
+    with_output.arg(Arg::new(alloc, "FILE").help(INPUT))
+}
+
 /// `image words`.
 fn make_words<'a>(alloc: Global) -> Result<Command<'a>, AllocError> {
     let words = Command::new(alloc, "words").about("Writes the words of a file in another form");
     let with_from = words.arg(make_form(alloc, "from", FROM))?;
-    with_from.arg(make_form(alloc, "to", TO))
+    with_files(alloc, with_from.arg(make_form(alloc, "to", TO))?)
 }
 
 /// `image source`.
@@ -71,19 +98,19 @@ fn make_source<'a>(alloc: Global) -> Result<Command<'a>, AllocError> {
     );
     let with_blocks = with_comments.arg(no_blocks)?;
     let no_texts = make_flag(alloc, "no-texts", "write texts as words");
-    with_blocks.arg(no_texts)
+    with_files(alloc, with_blocks.arg(no_texts)?)
 }
 
 /// `image save`.
 fn make_save<'a>(alloc: Global) -> Result<Command<'a>, AllocError> {
     let save = Command::new(alloc, "save").about("Assembles a source, and writes its core image");
-    save.arg(make_form(alloc, "to", TO))
+    with_files(alloc, save.arg(make_form(alloc, "to", TO))?)
 }
 
 /// `image list`.
 fn make_list<'a>(alloc: Global) -> Result<Command<'a>, AllocError> {
     let list = Command::new(alloc, "list").about("Lists the words of a core image in octal");
-    list.arg(make_form(alloc, "from", FROM))
+    with_files(alloc, list.arg(make_form(alloc, "from", FROM))?)
 }
 
 /// The command line of the program.
@@ -95,45 +122,21 @@ fn make_command<'a>(alloc: Global) -> Result<Command<'a>, AllocError> {
     with_save.subcommand(make_list(alloc)?)
 }
 
-/// The packing of a name.
-fn packing_of(name: &str) -> Option<Packing> {
-    match name {
-        "core" => Some(Packing::CoreDump),
-        "dense" => Some(Packing::HighDensity),
-        "ascii" => Some(Packing::AnsiAscii),
-        "simh" => Some(Packing::Simh),
-        _ => None,
-    }
+/// The packing that `--from` or `--to` names.
+fn packing_of(given: &ArgMatches<'_>, option: &'static str) -> Option<Packing> {
+    packing_named(given.get_str(option)?)
 }
 
-/// The packing that `--from` names.
-fn from_of(given: &ArgMatches<'_>) -> Option<Packing> {
-    packing_of(given.get_str("from")?)
-}
-
-/// The form that `--to` names.
-fn to_of(given: &ArgMatches<'_>) -> Option<Form> {
-    let name = given.get_str("to")?;
-    if name == "octal" {
-        return Some(Form::Octal);
-    }
-    match packing_of(name) {
-        Some(packing) => Some(Form::Packed(packing)),
-        None => None,
-    }
-}
-
-/// What the matches ask for; none where a form has another name.
-fn command_in(matches: &ArgMatches<'_>) -> Option<ImageCommand> {
-    let (name, given) = matches.subcommand()?;
+/// The command of this name with these options; none where a form has another name.
+fn command_in(name: &str, given: &ArgMatches<'_>) -> Option<ImageCommand> {
     match name {
         "words" => {
-            let from = from_of(given)?;
-            let to = to_of(given)?;
+            let from = packing_of(given, "from")?;
+            let to = packing_of(given, "to")?;
             Some(ImageCommand::Words { from, to })
         }
         "source" => {
-            let from = from_of(given)?;
+            let from = packing_of(given, "from")?;
             let shown = Shown {
                 labels: !given.get_flag("no-labels"),
                 comments: !given.get_flag("no-comments"),
@@ -143,26 +146,52 @@ fn command_in(matches: &ArgMatches<'_>) -> Option<ImageCommand> {
             Some(ImageCommand::Source { from, shown })
         }
         "save" => {
-            let to = to_of(given)?;
+            let to = packing_of(given, "to")?;
             Some(ImageCommand::Save { to })
         }
         "list" => {
-            let from = from_of(given)?;
+            let from = packing_of(given, "from")?;
             Some(ImageCommand::List { from })
         }
         _ => None,
     }
 }
 
-/// Reads the arguments, which begin with the program's name.
-pub fn read_arguments<S: AsStr>(alloc: Global, arguments: &[S]) -> Result<ImageCommand, Refusal> {
-    let mut command = match make_command(alloc) {
-        Ok(command) => command,
-        Err(_) => return Err(Refusal::Memory),
+/// The file that is named, if one is.
+fn file_in(
+    alloc: Global,
+    given: &ArgMatches<'_>,
+    option: &'static str,
+) -> Result<Option<String>, AllocError> {
+    match given.get_str(option) {
+        None => Ok(None),
+        Some(name) => Ok(Some(String::from_str(alloc, name)?)),
+    }
+}
+
+/// What the matches ask for.
+fn options_in<'a>(alloc: Global, matches: &ArgMatches<'a>) -> Result<Options, Wrong<'a>> {
+    let Some((name, given)) = matches.subcommand() else {
+        return Err(Wrong::Other(WRONG_FORM));
+    };
+    let Some(command) = command_in(name, given) else {
+        return Err(Wrong::Other(WRONG_FORM));
+    };
+    Ok(Options {
+        command,
+        input: file_in(alloc, given, "FILE")?,
+        output: file_in(alloc, given, "output")?,
+    })
+}
+
+/// What the arguments, which begin with the program's name, ask for.
+pub fn read_arguments<S: AsStr>(alloc: Global, arguments: &[S]) -> Result<Options, Refusal> {
+    let Ok(mut command) = make_command(alloc) else {
+        return Err(Refusal::Memory);
     };
     let matches = matches_of(&mut command, arguments)?;
-    match command_in(&matches) {
-        Some(asked) => Ok(asked),
-        None => Err(refused(alloc, &mut command, Wrong::Other(WRONG_FORM))),
+    match options_in(alloc, &matches) {
+        Ok(options) => Ok(options),
+        Err(wrong) => Err(refused(alloc, &mut command, wrong)),
     }
 }

@@ -1,8 +1,9 @@
-//! The program: an image or a source from standard input, another form of it to standard output,
+//! The program: an image or a source from a file or standard input, another form of it to standard output or a file,
 //! and what is wrong with an input that is refused to standard error.
 #![tactic(auto)]
 
 mod arguments;
+mod kept_output;
 mod reasons;
 mod serving;
 
@@ -23,7 +24,7 @@ fn main(rt: HostRuntime) -> ExitCode {
     let mut reader = HostIn::new(rt.stdin());
     let mut writer = HostOut::new(rt.stdout());
     let status = program(
-        rt.alloc(),
+        &rt,
         arguments.as_slice(),
         &mut reader,
         &mut writer,

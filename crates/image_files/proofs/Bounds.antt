@@ -1,5 +1,5 @@
 -- Numbers below a limit, by recursion.
-use Rattle.std.proofs.Common.{ℕ, zero, suc, ◌<◌, List, [], ◌∷◌, arith}
+use Rattle.std.proofs.Common.{ℕ, suc, ◌<◌, List, [], ◌∷◌, arith}
 use Rattle.std.specs.Prelude.{All}
 
 abbrev pub AreBelow : ℕ → List ℕ → Type 0

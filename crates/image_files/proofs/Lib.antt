@@ -3,6 +3,9 @@ pub mod SaveLemmas
 pub mod PackLemmas
 pub mod SaveImages
 pub mod UnpackLemmas
+pub mod OctalLines
+pub mod CoreImageLemmas
+pub mod FitLemmas
 pub mod ImageLemmas
 pub mod WriteLemmas
 pub mod WordLemmas

@@ -1,17 +1,22 @@
 -- Words are read from their bytes, and bytes that are read are those of the words.
 use Rattle.std.proofs.Common.{◌≡◌, ◌∙◌, sym, ap, ℕ, ◌+◌, ◌-◌, ◌*◌, ◌/◌, ◌%◌, ◌^◌, ◌<◌, ◌≤◌, ◌==◌, Bool, true, false, ◌&&◌, nat_lt, List, [], ◌∷◌, ◌++◌}
-use Rattle.std.proofs.Common.{Ok, Err, refl, arith, length, length-append, length-drop, take, drop, get_or, append_assoc, append-nil}
+use Rattle.std.proofs.Common.{Ok, Err, refl, arith, length, take, drop, get_or, append_assoc, append-nil}
 use Rattle.std.proofs.lemmas.List.{take_all}
 use Rattle.std.specs.Prelude.{flat_map, All}
 use Rattle.std.proofs.lemmas.Bool.{and_parts}
 use Rattle.std.proofs.lemmas.Bool.Decides.{nat_tests}
 use Rattle.std.proofs.lemmas.Grind.{common_steps}
 use Rattle.image_files.specs.declared.packings.Packing.{Packing}
-use Rattle.image_files.specs.declared.packings.Packing.TheVariants.{CoreDump, HighDensity, AnsiAscii, Simh}
+use Rattle.image_files.specs.declared.packings.Packing.TheVariants.{CoreDump, HighDensity, AnsiAscii, Simh, Octal}
 use Rattle.image_files.proofs.Bounds.{AreBelow, are_below}
 use Rattle.image_files.specs.Packings.{core_bytes, ascii_bytes, simh_bytes, dense_pair, dense_last, dense_bytes, packed}
-use Rattle.image_files.specs.Packings.{Words, PackFault, with_word, word_then, five_bytes, core_words, ascii_value, are_characters, ascii_words}
+use Rattle.image_files.specs.declared.packings.PackErrorKind.{PackErrorKind}
+use Rattle.image_files.specs.declared.packings.PackErrorKind.TheVariants.{ExtraBits, NotOctal}
+use Rattle.image_files.specs.Packings.{Words, with_word, word_or, word_then, five_bytes, core_words, ascii_value, are_characters, ascii_words}
 use Rattle.image_files.specs.Packings.{simh_value, is_simh, simh_words, second_word, dense_words, unpacked}
+use Rattle.image_files.specs.Packings.{octal_bytes, are_octal_digits, are_marks, half_value, octal_words}
+use Rattle.word36.specs.Words.{joined}
+use Rattle.image_files.proofs.OctalLines.{line_same, octal_read}
 
 below_test : (n m : ℕ) → n < m → nat_lt n m ≡ true
 below_test n m h = grind (arith, common_steps)
@@ -127,6 +132,7 @@ packed_read_below CoreDump ws h = core_read ws 1
 packed_read_below HighDensity ws h = dense_read ws 1 h
 packed_read_below AnsiAscii ws h = ascii_read ws 1 h
 packed_read_below Simh ws h = simh_read ws 1 h
+packed_read_below Octal ws h = octal_read ws 1 h
 
 pub packed_read : (packing : Packing) (ws : List ℕ) → All (λ n. n < 2 ^ 36) ws → unpacked packing (packed packing ws) ≡ Ok ws
 packed_read packing ws all = packed_read_below packing ws (are_below (2 ^ 36) ws all)
@@ -145,10 +151,10 @@ word_back : (f : ℕ → List ℕ) (w : ℕ) (own bs : List ℕ) (r : Words) →
 word_back f w own bs (Ok ws) e h = ap (λ l. l ++ flat_map f ws) e ∙ ap (λ l. own ++ l) h
 word_back f w own bs (Err fault) e h = tt
 
-then_back : (f : ℕ → List ℕ) (number w : ℕ) (own bs : List ℕ) (t : Bool) (r : Words) → (t ≡ true → f w ≡ own) → IsBack (each f) bs r
-    → IsBack (each f) (own ++ bs) (word_then number t w r)
-then_back f number w own bs true r e h = word_back f w own bs r (e refl) h
-then_back f number w own bs false r e h = tt
+then_back : (f : ℕ → List ℕ) (kind : PackErrorKind) (number w : ℕ) (own bs : List ℕ) (t : Bool) (r : Words) → (t ≡ true → f w ≡ own)
+    → IsBack (each f) bs r → IsBack (each f) (own ++ bs) (word_or kind number t w r)
+then_back f kind number w own bs true r e h = word_back f w own bs r (e refl) h
+then_back f kind number w own bs false r e h = tt
 
 five_same : (a b c d e a' b' c' d' e' : ℕ) → a ≡ a' → b ≡ b' → c ≡ c' → d ≡ d' → e ≡ e'
     → (a ∷ b ∷ c ∷ d ∷ e ∷ []) ≡ (a' ∷ b' ∷ c' ∷ d' ∷ e' ∷ [])
@@ -164,7 +170,7 @@ core_bytes_back : (bs : List ℕ) (number : ℕ) → AreBelow 256 bs → IsBack 
 unfolding core_words
 core_bytes_back [] number h = refl
 core_bytes_back (a ∷ b ∷ c ∷ d ∷ e ∷ bs) number h =
-    then_back core_bytes number (five_bytes a b c d e) (a ∷ b ∷ c ∷ d ∷ e ∷ []) bs (nat_lt e 16) (core_words (number + 1) bs)
+    then_back core_bytes ExtraBits number (five_bytes a b c d e) (a ∷ b ∷ c ∷ d ∷ e ∷ []) bs (nat_lt e 16) (core_words (number + 1) bs)
     (λ t. core_same a b c d e h.0 h.1.0 h.1.1.0 h.1.1.1.0 (below_from e 16 t))
     (core_bytes_back bs (number + 1) h.1.1.1.1.1)
 core_bytes_back (a ∷ []) number h = tt
@@ -191,7 +197,7 @@ ascii_bytes_back : (bs : List ℕ) (number : ℕ) → AreBelow 256 bs → IsBack
 unfolding ascii_words
 ascii_bytes_back [] number h = refl
 ascii_bytes_back (a ∷ b ∷ c ∷ d ∷ e ∷ bs) number h =
-    then_back ascii_bytes number (ascii_value a b c d e) (a ∷ b ∷ c ∷ d ∷ e ∷ []) bs (are_characters a b c d) (ascii_words (number + 1) bs)
+    then_back ascii_bytes ExtraBits number (ascii_value a b c d e) (a ∷ b ∷ c ∷ d ∷ e ∷ []) bs (are_characters a b c d) (ascii_words (number + 1) bs)
     (λ t. let p = characters a b c d t in ascii_same a b c d e p.0 p.1 p.2 p.3 h.1.1.1.1.0)
     (ascii_bytes_back bs (number + 1) h.1.1.1.1.1)
 ascii_bytes_back (a ∷ []) number h = tt
@@ -221,7 +227,7 @@ simh_bytes_back : (bs : List ℕ) (number : ℕ) → AreBelow 256 bs → IsBack 
 unfolding simh_words
 simh_bytes_back [] number h = refl
 simh_bytes_back (a ∷ b ∷ c ∷ d ∷ e ∷ f ∷ g ∷ i ∷ bs) number h =
-    then_back simh_bytes number (simh_value a b c d e) (a ∷ b ∷ c ∷ d ∷ e ∷ f ∷ g ∷ i ∷ []) bs (is_simh e f g i) (simh_words (number + 1) bs)
+    then_back simh_bytes ExtraBits number (simh_value a b c d e) (a ∷ b ∷ c ∷ d ∷ e ∷ f ∷ g ∷ i ∷ []) bs (is_simh e f g i) (simh_words (number + 1) bs)
     (λ t. let p = is_simh_parts e f g i t in simh_same a b c d e f g i h.0 h.1.0 h.1.1.0 h.1.1.1.0 p.0 p.1 p.2 p.3)
     (simh_bytes_back bs (number + 1) h.1.1.1.1.1.1.1.1)
 simh_bytes_back (a ∷ []) number h = tt
@@ -231,6 +237,28 @@ simh_bytes_back (a ∷ b ∷ c ∷ d ∷ []) number h = tt
 simh_bytes_back (a ∷ b ∷ c ∷ d ∷ e ∷ []) number h = tt
 simh_bytes_back (a ∷ b ∷ c ∷ d ∷ e ∷ f ∷ []) number h = tt
 simh_bytes_back (a ∷ b ∷ c ∷ d ∷ e ∷ f ∷ g ∷ []) number h = tt
+
+octal_bytes_back : (bs : List ℕ) (number : ℕ) → IsBack (each octal_bytes) bs (octal_words number bs)
+unfolding octal_words
+octal_bytes_back [] number = refl
+octal_bytes_back (a ∷ b ∷ c ∷ d ∷ e ∷ f ∷ p ∷ q ∷ g ∷ i ∷ j ∷ k ∷ l ∷ m ∷ z ∷ bs) number =
+    then_back octal_bytes NotOctal number (joined (half_value a b c d e f) (half_value g i j k l m)) (a ∷ b ∷ c ∷ d ∷ e ∷ f ∷ p ∷ q ∷ g ∷ i ∷ j ∷ k ∷ l ∷ m ∷ z ∷ []) bs
+    (are_octal_digits a b c d e f && (are_octal_digits g i j k l m && are_marks p q z)) (octal_words (number + 1) bs)
+    (λ t. line_same a b c d e f p q g i j k l m z t) (octal_bytes_back bs (number + 1))
+octal_bytes_back (a ∷ []) number = tt
+octal_bytes_back (a ∷ b ∷ []) number = tt
+octal_bytes_back (a ∷ b ∷ c ∷ []) number = tt
+octal_bytes_back (a ∷ b ∷ c ∷ d ∷ []) number = tt
+octal_bytes_back (a ∷ b ∷ c ∷ d ∷ e ∷ []) number = tt
+octal_bytes_back (a ∷ b ∷ c ∷ d ∷ e ∷ f ∷ []) number = tt
+octal_bytes_back (a ∷ b ∷ c ∷ d ∷ e ∷ f ∷ p ∷ []) number = tt
+octal_bytes_back (a ∷ b ∷ c ∷ d ∷ e ∷ f ∷ p ∷ q ∷ []) number = tt
+octal_bytes_back (a ∷ b ∷ c ∷ d ∷ e ∷ f ∷ p ∷ q ∷ g ∷ []) number = tt
+octal_bytes_back (a ∷ b ∷ c ∷ d ∷ e ∷ f ∷ p ∷ q ∷ g ∷ i ∷ []) number = tt
+octal_bytes_back (a ∷ b ∷ c ∷ d ∷ e ∷ f ∷ p ∷ q ∷ g ∷ i ∷ j ∷ []) number = tt
+octal_bytes_back (a ∷ b ∷ c ∷ d ∷ e ∷ f ∷ p ∷ q ∷ g ∷ i ∷ j ∷ k ∷ []) number = tt
+octal_bytes_back (a ∷ b ∷ c ∷ d ∷ e ∷ f ∷ p ∷ q ∷ g ∷ i ∷ j ∷ k ∷ l ∷ []) number = tt
+octal_bytes_back (a ∷ b ∷ c ∷ d ∷ e ∷ f ∷ p ∷ q ∷ g ∷ i ∷ j ∷ k ∷ l ∷ m ∷ []) number = tt
 
 last_same : (a b c d e : ℕ) → a < 256 → b < 256 → c < 256 → d < 256 → e < 256 → e % 16 ≡ 0
     → dense_last (five_bytes a b c d (e / 16)) ≡ a ∷ b ∷ c ∷ d ∷ e ∷ []
@@ -296,6 +324,7 @@ bytes_back CoreDump bs h = core_bytes_back bs 1 h
 bytes_back HighDensity bs h = dense_bytes_back bs 1 h
 bytes_back AnsiAscii bs h = ascii_bytes_back bs 1 h
 bytes_back Simh bs h = simh_bytes_back bs 1 h
+bytes_back Octal bs h = octal_bytes_back bs 1
 
 ok_back : (bytes : List ℕ → List ℕ) (bs ws : List ℕ) (r : Words) → r ≡ Ok ws → IsBack bytes bs r → bytes ws ≡ bs
 ok_back bytes bs ws (Ok vs) e h =

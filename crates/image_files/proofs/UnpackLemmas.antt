@@ -8,7 +8,7 @@ use Rattle.std.specs.Prelude.{◌≢◌}
 use Rattle.image_files.specs.declared.packings.PackErrorKind.{PackErrorKind}
 use Rattle.image_files.specs.declared.packings.PackErrorKind.TheVariants.{CutShort, ExtraBits}
 use Rattle.image_files.specs.Unpacks.{with_words}
-use Rattle.image_files.specs.Packings.{Words, with_word, word_then, wrong_at, five_bytes, core_words, ascii_value, are_characters, ascii_words}
+use Rattle.image_files.specs.Packings.{Words, with_word, word_or, word_then, wrong_at, five_bytes, core_words, ascii_value, are_characters, ascii_words}
 use Rattle.image_files.specs.Packings.{simh_value, is_simh, simh_words, second_word, dense_words}
 
 -- ---- words before others
@@ -25,13 +25,13 @@ with_words_wrong : (ws : List ℕ) (n : ℕ) (kind : PackErrorKind) → with_wor
 with_words_wrong [] n kind = refl
 with_words_wrong (w ∷ ws) n kind = ap (with_word w) (with_words_wrong ws n kind)
 
-true_then : (t : Bool) (number w : ℕ) (r : Words) → t ≡ true → word_then number t w r ≡ with_word w r
-true_then true number w r h = refl
-true_then false number w r h = absurd (cc)
+true_then : (kind : PackErrorKind) (t : Bool) (number w : ℕ) (r : Words) → t ≡ true → word_or kind number t w r ≡ with_word w r
+true_then kind true number w r h = refl
+true_then kind false number w r h = absurd (cc)
 
-false_then : (t : Bool) (number w : ℕ) (r : Words) → t ≡ false → word_then number t w r ≡ wrong_at number ExtraBits
-false_then false number w r h = refl
-false_then true number w r h = absurd (cc)
+false_then : (kind : PackErrorKind) (t : Bool) (number w : ℕ) (r : Words) → t ≡ false → word_or kind number t w r ≡ wrong_at number kind
+false_then kind false number w r h = refl
+false_then kind true number w r h = absurd (cc)
 
 below_test : (n m : ℕ) → n < m → nat_lt n m ≡ true
 below_test n m h = grind (arith, common_steps)
@@ -41,18 +41,18 @@ not_below n m h = grind (arith, common_steps)
 
 -- ---- a packing whose words have so many bytes each
 
--- the word at the front: whether its bytes fit the packing, and its value
-record ReadsEach (read : ℕ → List ℕ → Words) (size : ℕ) (fits : List ℕ → Bool) (value : List ℕ → ℕ) : Type 0 where
-  none : (n : ℕ) → read n [] ≡ Ok []
-  cut : (n : ℕ) (bs : List ℕ) → 0 < length bs → length bs < size → read n bs ≡ wrong_at n CutShort
-  first : (n : ℕ) (bs : List ℕ) → size ≤ length bs → read n bs ≡ word_then n (fits bs) (value bs) (read (n + 1) (drop size bs))
+-- the word at the front: whether its bytes fit the packing, what is wrong with them if not, and its value
+pub record ReadsEach (kind : PackErrorKind) (read : ℕ → List ℕ → Words) (size : ℕ) (fits : List ℕ → Bool) (value : List ℕ → ℕ) : Type 0 where
+  pub none : (n : ℕ) → read n [] ≡ Ok []
+  pub cut : (n : ℕ) (bs : List ℕ) → 0 < length bs → length bs < size → read n bs ≡ wrong_at n CutShort
+  pub first : (n : ℕ) (bs : List ℕ) → size ≤ length bs → read n bs ≡ word_or kind n (fits bs) (value bs) (read (n + 1) (drop size bs))
 
-stepped : (read : ℕ → List ℕ → Words) (size : ℕ) (fits : List ℕ → Bool) (value : List ℕ → ℕ) → ReadsEach read size fits value
+pub stepped : (kind : PackErrorKind) (read : ℕ → List ℕ → Words) (size : ℕ) (fits : List ℕ → Bool) (value : List ℕ → ℕ) → ReadsEach kind read size fits value
     → (ws vs rest : List ℕ) (n m k v : ℕ) (all : Words) → vs ≡ ws ++ v ∷ [] → v ≡ value rest → fits rest ≡ true
     → n ≡ length ws + 1 → m ≡ length vs + 1 → size ≤ length rest → k ≡ length rest - size
     → with_words ws (read n rest) ≡ all
     → with_words vs (read m (take k (drop size rest))) ≡ all
-stepped read size fits value each ws vs rest n m k v all is same fit number more l left h =
+stepped kind read size fits value each ws vs rest n m k v all is same fit number more l left h =
     let next : m ≡ n + 1 = omega (arith, ap length is, length-append ws (v ∷ [])) in
     let behind = drop size rest in
     ap (λ b. with_words vs (read m b)) (take_all k behind (omega (arith, length-drop size rest)))
@@ -60,27 +60,27 @@ stepped read size fits value each ws vs rest n m k v all is same fit number more
     ∙ (ap (λ l. with_words l (read (n + 1) behind)) is
     ∙ (with_words_push ws v (read (n + 1) behind)
     ∙ (ap (λ w. with_words ws (with_word w (read (n + 1) behind))) same
-    ∙ (ap (with_words ws) (sym (true_then (fits rest) n (value rest) (read (n + 1) behind) fit))
+    ∙ (ap (with_words ws) (sym (true_then kind (fits rest) n (value rest) (read (n + 1) behind) fit))
     ∙ (ap (with_words ws) (sym (each.first n rest l)) ∙ h))))))
 
-ended : (read : ℕ → List ℕ → Words) (size : ℕ) (fits : List ℕ → Bool) (value : List ℕ → ℕ) → ReadsEach read size fits value
+pub ended : (kind : PackErrorKind) (read : ℕ → List ℕ → Words) (size : ℕ) (fits : List ℕ → Bool) (value : List ℕ → ℕ) → ReadsEach kind read size fits value
     → (ws rest : List ℕ) (n : ℕ) (all : Words) → length rest ≡ 0 → with_words ws (read n rest) ≡ all → all ≡ Ok ws
-ended read size fits value each ws [] n all e h =
+ended kind read size fits value each ws [] n all e h =
     sym h ∙ (ap (with_words ws) (each.none n) ∙ (with_words_ok ws [] ∙ ap (λ l. Ok l) (append-nil ws)))
-ended read size fits value each ws (b ∷ rest) n all e h = absurd (omega arith)
+ended kind read size fits value each ws (b ∷ rest) n all e h = absurd (omega arith)
 
-short : (read : ℕ → List ℕ → Words) (size : ℕ) (fits : List ℕ → Bool) (value : List ℕ → ℕ) → ReadsEach read size fits value
+pub short : (kind : PackErrorKind) (read : ℕ → List ℕ → Words) (size : ℕ) (fits : List ℕ → Bool) (value : List ℕ → ℕ) → ReadsEach kind read size fits value
     → (ws rest : List ℕ) (n : ℕ) (all : Words) → with_words ws (read n rest) ≡ all → 0 < length rest → length rest < size
     → all ≡ wrong_at n CutShort
-short read size fits value each ws rest n all h some few =
+short kind read size fits value each ws rest n all h some few =
     sym h ∙ (ap (with_words ws) (each.cut n rest some few) ∙ with_words_wrong ws n CutShort)
 
-extra : (read : ℕ → List ℕ → Words) (size : ℕ) (fits : List ℕ → Bool) (value : List ℕ → ℕ) → ReadsEach read size fits value
+pub extra : (kind : PackErrorKind) (read : ℕ → List ℕ → Words) (size : ℕ) (fits : List ℕ → Bool) (value : List ℕ → ℕ) → ReadsEach kind read size fits value
     → (ws rest : List ℕ) (n : ℕ) (all : Words) → with_words ws (read n rest) ≡ all → size ≤ length rest → fits rest ≡ false
-    → all ≡ wrong_at n ExtraBits
-extra read size fits value each ws rest n all h l wrong =
-    sym h ∙ (ap (with_words ws) (each.first n rest l ∙ false_then (fits rest) n (value rest) (read (n + 1) (drop size rest)) wrong)
-    ∙ with_words_wrong ws n ExtraBits)
+    → all ≡ wrong_at n kind
+extra kind read size fits value each ws rest n all h l wrong =
+    sym h ∙ (ap (with_words ws) (each.first n rest l ∙ false_then kind (fits rest) n (value rest) (read (n + 1) (drop size rest)) wrong)
+    ∙ with_words_wrong ws n kind)
 
 -- ---- core dump
 
@@ -112,26 +112,26 @@ core_none : (n : ℕ) → core_words n [] ≡ Ok []
 unfolding core_words
 core_none n = refl
 
-core_each : ReadsEach core_words 5 core_fits core_value
+core_each : ReadsEach ExtraBits core_words 5 core_fits core_value
 core_each = record { none = core_none; cut = core_cut; first = core_first }
 
 pub core_stepped : (ws vs rest : List ℕ) (n m k v : ℕ) (all : Words) → vs ≡ ws ++ v ∷ [] → v ≡ core_value rest → get_or rest 4 0 < 16
     → n ≡ length ws + 1 → m ≡ length vs + 1 → 5 ≤ length rest → k ≡ length rest - 5
     → with_words ws (core_words n rest) ≡ all → with_words vs (core_words m (take k (drop 5 rest))) ≡ all
 core_stepped ws vs rest n m k v all is same fit =
-    stepped core_words 5 core_fits core_value core_each ws vs rest n m k v all is same (below_test (get_or rest 4 0) 16 fit)
+    stepped ExtraBits core_words 5 core_fits core_value core_each ws vs rest n m k v all is same (below_test (get_or rest 4 0) 16 fit)
 
 pub core_ended : (ws rest : List ℕ) (n : ℕ) (all : Words) → length rest ≡ 0 → with_words ws (core_words n rest) ≡ all → all ≡ Ok ws
-core_ended = ended core_words 5 core_fits core_value core_each
+core_ended = ended ExtraBits core_words 5 core_fits core_value core_each
 
 pub core_short : (ws rest : List ℕ) (n : ℕ) (all : Words) → with_words ws (core_words n rest) ≡ all → 0 < length rest → length rest < 5
     → all ≡ Err (record { number = n; kind = CutShort })
-core_short = short core_words 5 core_fits core_value core_each
+core_short = short ExtraBits core_words 5 core_fits core_value core_each
 
 pub core_extra : (ws rest : List ℕ) (n : ℕ) (all : Words) → with_words ws (core_words n rest) ≡ all → 5 ≤ length rest → 16 ≤ get_or rest 4 0
     → all ≡ Err (record { number = n; kind = ExtraBits })
 core_extra ws rest n all h l wrong =
-    extra core_words 5 core_fits core_value core_each ws rest n all h l (not_below (get_or rest 4 0) 16 wrong)
+    extra ExtraBits core_words 5 core_fits core_value core_each ws rest n all h l (not_below (get_or rest 4 0) 16 wrong)
 
 -- ---- ANSI-ASCII
 
@@ -163,24 +163,24 @@ ascii_none : (n : ℕ) → ascii_words n [] ≡ Ok []
 unfolding ascii_words
 ascii_none n = refl
 
-ascii_each : ReadsEach ascii_words 5 ascii_fits ascii_at
+ascii_each : ReadsEach ExtraBits ascii_words 5 ascii_fits ascii_at
 ascii_each = record { none = ascii_none; cut = ascii_cut; first = ascii_first }
 
 pub ascii_stepped : (ws vs rest : List ℕ) (n m k v : ℕ) (all : Words) → vs ≡ ws ++ v ∷ [] → v ≡ ascii_at rest → ascii_fits rest ≡ true
     → n ≡ length ws + 1 → m ≡ length vs + 1 → 5 ≤ length rest → k ≡ length rest - 5
     → with_words ws (ascii_words n rest) ≡ all → with_words vs (ascii_words m (take k (drop 5 rest))) ≡ all
-ascii_stepped = stepped ascii_words 5 ascii_fits ascii_at ascii_each
+ascii_stepped = stepped ExtraBits ascii_words 5 ascii_fits ascii_at ascii_each
 
 pub ascii_ended : (ws rest : List ℕ) (n : ℕ) (all : Words) → length rest ≡ 0 → with_words ws (ascii_words n rest) ≡ all → all ≡ Ok ws
-ascii_ended = ended ascii_words 5 ascii_fits ascii_at ascii_each
+ascii_ended = ended ExtraBits ascii_words 5 ascii_fits ascii_at ascii_each
 
 pub ascii_short : (ws rest : List ℕ) (n : ℕ) (all : Words) → with_words ws (ascii_words n rest) ≡ all → 0 < length rest → length rest < 5
     → all ≡ Err (record { number = n; kind = CutShort })
-ascii_short = short ascii_words 5 ascii_fits ascii_at ascii_each
+ascii_short = short ExtraBits ascii_words 5 ascii_fits ascii_at ascii_each
 
 pub ascii_extra : (ws rest : List ℕ) (n : ℕ) (all : Words) → with_words ws (ascii_words n rest) ≡ all → 5 ≤ length rest → ascii_fits rest ≡ false
     → all ≡ Err (record { number = n; kind = ExtraBits })
-ascii_extra = extra ascii_words 5 ascii_fits ascii_at ascii_each
+ascii_extra = extra ExtraBits ascii_words 5 ascii_fits ascii_at ascii_each
 
 -- ---- SIMH
 
@@ -218,24 +218,24 @@ simh_none : (n : ℕ) → simh_words n [] ≡ Ok []
 unfolding simh_words
 simh_none n = refl
 
-simh_each : ReadsEach simh_words 8 simh_fits simh_at
+simh_each : ReadsEach ExtraBits simh_words 8 simh_fits simh_at
 simh_each = record { none = simh_none; cut = simh_cut; first = simh_first }
 
 pub simh_stepped : (ws vs rest : List ℕ) (n m k v : ℕ) (all : Words) → vs ≡ ws ++ v ∷ [] → v ≡ simh_at rest → simh_fits rest ≡ true
     → n ≡ length ws + 1 → m ≡ length vs + 1 → 8 ≤ length rest → k ≡ length rest - 8
     → with_words ws (simh_words n rest) ≡ all → with_words vs (simh_words m (take k (drop 8 rest))) ≡ all
-simh_stepped = stepped simh_words 8 simh_fits simh_at simh_each
+simh_stepped = stepped ExtraBits simh_words 8 simh_fits simh_at simh_each
 
 pub simh_ended : (ws rest : List ℕ) (n : ℕ) (all : Words) → length rest ≡ 0 → with_words ws (simh_words n rest) ≡ all → all ≡ Ok ws
-simh_ended = ended simh_words 8 simh_fits simh_at simh_each
+simh_ended = ended ExtraBits simh_words 8 simh_fits simh_at simh_each
 
 pub simh_short : (ws rest : List ℕ) (n : ℕ) (all : Words) → with_words ws (simh_words n rest) ≡ all → 0 < length rest → length rest < 8
     → all ≡ Err (record { number = n; kind = CutShort })
-simh_short = short simh_words 8 simh_fits simh_at simh_each
+simh_short = short ExtraBits simh_words 8 simh_fits simh_at simh_each
 
 pub simh_extra : (ws rest : List ℕ) (n : ℕ) (all : Words) → with_words ws (simh_words n rest) ≡ all → 8 ≤ length rest → simh_fits rest ≡ false
     → all ≡ Err (record { number = n; kind = ExtraBits })
-simh_extra = extra simh_words 8 simh_fits simh_at simh_each
+simh_extra = extra ExtraBits simh_words 8 simh_fits simh_at simh_each
 
 -- ---- high density
 
@@ -326,11 +326,11 @@ pub dense_last : (ws vs rest : List ℕ) (n w : ℕ) → vs ≡ ws ++ w ∷ [] �
     → with_words ws (dense_words n rest) ≡ Ok vs
 dense_last ws vs rest n w is same five zeros =
     ap (with_words ws)
-    (last_word n rest five ∙ true_then (get_or rest 4 0 % 16 == 0) n (dense_one rest) (Ok []) (ap (λ r. r == 0) zeros))
+    (last_word n rest five ∙ true_then ExtraBits (get_or rest 4 0 % 16 == 0) n (dense_one rest) (Ok []) (ap (λ r. r == 0) zeros))
     ∙ (with_words_ok ws (dense_one rest ∷ []) ∙ ap (λ l. Ok l) (ap (λ v. ws ++ v ∷ []) (sym same) ∙ sym is))
 
 pub dense_extra : (ws rest : List ℕ) (n : ℕ) → length rest ≡ 5 → get_or rest 4 0 % 16 ≢ 0 → with_words ws (dense_words n rest) ≡ wrong_at n ExtraBits
 dense_extra ws rest n five some =
     ap (with_words ws)
-    (last_word n rest five ∙ false_then (get_or rest 4 0 % 16 == 0) n (dense_one rest) (Ok []) (ne_eqb (get_or rest 4 0 % 16) 0 some))
+    (last_word n rest five ∙ false_then ExtraBits (get_or rest 4 0 % 16 == 0) n (dense_one rest) (Ok []) (ne_eqb (get_or rest 4 0 % 16) 0 some))
     ∙ with_words_wrong ws n ExtraBits

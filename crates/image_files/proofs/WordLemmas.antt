@@ -1,5 +1,5 @@
 -- Words that are read from bytes, and those of the file of an image, are below 2 ^ 36.
-use Rattle.std.proofs.Common.{◌≡◌, sym, subst, ℕ, zero, suc, ◌+◌, ◌-◌, ◌*◌, ◌/◌, ◌%◌, ◌^◌, ◌<◌, ◌≤◌, ◌==◌, Bool, true, false, ◌&&◌, nat_lt, List, [], ◌∷◌, ◌++◌}
+use Rattle.std.proofs.Common.{◌≡◌, sym, subst, ℕ, zero, suc, ◌+◌, ◌/◌, ◌%◌, ◌^◌, ◌<◌, ◌≤◌, ◌==◌, Bool, true, false, ◌&&◌, nat_lt, List, [], ◌∷◌, ◌++◌}
 use Rattle.std.proofs.Common.{length, Result, Ok, Err, refl, arith, if◌then◌else◌, append_assoc}
 use Rattle.std.specs.Prelude.{All, flat_map}
 use Rattle.std.proofs.lemmas.Bool.{and_parts}
@@ -7,9 +7,14 @@ use Rattle.std.proofs.lemmas.Bool.Decides.{nat_tests}
 use Rattle.image_files.proofs.Bounds.{AreBelow, are_below}
 use Rattle.image_files.specs.Images.{IsImage, WordsFit}
 use Rattle.image_files.specs.declared.packings.Packing.{Packing}
-use Rattle.image_files.specs.declared.packings.Packing.TheVariants.{CoreDump, HighDensity, AnsiAscii, Simh}
-use Rattle.image_files.specs.Packings.{Words, with_word, word_then, five_bytes, core_words, ascii_value, are_characters, ascii_words}
+use Rattle.image_files.specs.declared.packings.Packing.TheVariants.{CoreDump, HighDensity, AnsiAscii, Simh, Octal}
+use Rattle.image_files.specs.declared.packings.PackErrorKind.{PackErrorKind}
+use Rattle.image_files.specs.declared.packings.PackErrorKind.TheVariants.{ExtraBits, NotOctal}
+use Rattle.image_files.specs.Packings.{Words, with_word, word_or, five_bytes, core_words, ascii_value, are_characters, ascii_words}
 use Rattle.image_files.specs.Packings.{simh_value, is_simh, simh_words, second_word, dense_words, unpacked}
+use Rattle.image_files.specs.Packings.{are_octal_digits, are_marks, half_value, octal_words}
+use Rattle.word36.specs.Words.{joined}
+use Rattle.image_files.proofs.OctalLines.{line_small}
 use Rattle.image_files.specs.declared.saves.SaveErrorKind.{SaveErrorKind}
 use Rattle.image_files.specs.declared.saves.SaveErrorKind.TheVariants.{Behind}
 use Rattle.image_files.specs.declared.save_reader.Head.{Head}
@@ -42,9 +47,9 @@ word_fit : (w : ℕ) (r : Words) → w < 2 ^ 36 → Fit r → Fit (with_word w r
 word_fit w (Ok ws) h f = (h, f)
 word_fit w (Err fault) h f = tt
 
-then_fit : (number w : ℕ) (t : Bool) (r : Words) → (t ≡ true → w < 2 ^ 36) → Fit r → Fit (word_then number t w r)
-then_fit number w true r h f = word_fit w r (h refl) f
-then_fit number w false r h f = tt
+then_fit : (kind : PackErrorKind) (number w : ℕ) (t : Bool) (r : Words) → (t ≡ true → w < 2 ^ 36) → Fit r → Fit (word_or kind number t w r)
+then_fit kind number w true r h f = word_fit w r (h refl) f
+then_fit kind number w false r h f = tt
 
 five_below : (a b c d e : ℕ) → a < 256 → b < 256 → c < 256 → d < 256 → e < 16 → five_bytes a b c d e < 2 ^ 36
 five_below a b c d e g h i j k = omega arith
@@ -53,7 +58,7 @@ core_fit : (bs : List ℕ) (number : ℕ) → AreBelow 256 bs → Fit (core_word
 unfolding core_words
 core_fit [] number h = tt
 core_fit (a ∷ b ∷ c ∷ d ∷ e ∷ bs) number h =
-    then_fit number (five_bytes a b c d e) (nat_lt e 16) (core_words (number + 1) bs)
+    then_fit ExtraBits number (five_bytes a b c d e) (nat_lt e 16) (core_words (number + 1) bs)
     (λ t. five_below a b c d e h.0 h.1.0 h.1.1.0 h.1.1.1.0 (below_from e 16 t)) (core_fit bs (number + 1) h.1.1.1.1.1)
 core_fit (a ∷ []) number h = tt
 core_fit (a ∷ b ∷ []) number h = tt
@@ -71,7 +76,7 @@ ascii_fit : (bs : List ℕ) (number : ℕ) → AreBelow 256 bs → Fit (ascii_wo
 unfolding ascii_words
 ascii_fit [] number h = tt
 ascii_fit (a ∷ b ∷ c ∷ d ∷ e ∷ bs) number h =
-    then_fit number (ascii_value a b c d e) (are_characters a b c d) (ascii_words (number + 1) bs)
+    then_fit ExtraBits number (ascii_value a b c d e) (are_characters a b c d) (ascii_words (number + 1) bs)
     (λ t. characters_below a b c d e t h.1.1.1.1.0) (ascii_fit bs (number + 1) h.1.1.1.1.1)
 ascii_fit (a ∷ []) number h = tt
 ascii_fit (a ∷ b ∷ []) number h = tt
@@ -87,7 +92,7 @@ simh_fit : (bs : List ℕ) (number : ℕ) → AreBelow 256 bs → Fit (simh_word
 unfolding simh_words
 simh_fit [] number h = tt
 simh_fit (a ∷ b ∷ c ∷ d ∷ e ∷ f ∷ g ∷ i ∷ bs) number h =
-    then_fit number (simh_value a b c d e) (is_simh e f g i) (simh_words (number + 1) bs)
+    then_fit ExtraBits number (simh_value a b c d e) (is_simh e f g i) (simh_words (number + 1) bs)
     (λ t. simh_below a b c d e f g i t h.0 h.1.0 h.1.1.0 h.1.1.1.0) (simh_fit bs (number + 1) h.1.1.1.1.1.1.1.1)
 simh_fit (a ∷ []) number h = tt
 simh_fit (a ∷ b ∷ []) number h = tt
@@ -107,7 +112,7 @@ unfolding dense_words
 dense_fit [] number h = tt
 dense_fit (a ∷ b ∷ c ∷ d ∷ e ∷ []) number h =
     let high : e / 16 < 16 = omega (arith, h.1.1.1.1.0) in
-    then_fit number (five_bytes a b c d (e / 16)) (e % 16 == 0) (Ok [])
+    then_fit ExtraBits number (five_bytes a b c d (e / 16)) (e % 16 == 0) (Ok [])
     (λ t. five_below a b c d (e / 16) h.0 h.1.0 h.1.1.0 h.1.1.1.0 high) tt
 dense_fit (a ∷ b ∷ c ∷ d ∷ e ∷ f ∷ g ∷ k ∷ i ∷ bs) number h =
     let high : e / 16 < 16 = omega (arith, h.1.1.1.1.0) in
@@ -124,12 +129,35 @@ dense_fit (a ∷ b ∷ c ∷ d ∷ e ∷ f ∷ []) number h = tt
 dense_fit (a ∷ b ∷ c ∷ d ∷ e ∷ f ∷ g ∷ []) number h = tt
 dense_fit (a ∷ b ∷ c ∷ d ∷ e ∷ f ∷ g ∷ k ∷ []) number h = tt
 
+octal_fit : (bs : List ℕ) (number : ℕ) → Fit (octal_words number bs)
+unfolding octal_words
+octal_fit [] number = tt
+octal_fit (a ∷ b ∷ c ∷ d ∷ e ∷ f ∷ p ∷ q ∷ g ∷ i ∷ j ∷ k ∷ l ∷ m ∷ z ∷ bs) number =
+    then_fit NotOctal number (joined (half_value a b c d e f) (half_value g i j k l m))
+    (are_octal_digits a b c d e f && (are_octal_digits g i j k l m && are_marks p q z)) (octal_words (number + 1) bs)
+    (λ t. line_small a b c d e f g i j k l m) (octal_fit bs (number + 1))
+octal_fit (a ∷ []) number = tt
+octal_fit (a ∷ b ∷ []) number = tt
+octal_fit (a ∷ b ∷ c ∷ []) number = tt
+octal_fit (a ∷ b ∷ c ∷ d ∷ []) number = tt
+octal_fit (a ∷ b ∷ c ∷ d ∷ e ∷ []) number = tt
+octal_fit (a ∷ b ∷ c ∷ d ∷ e ∷ f ∷ []) number = tt
+octal_fit (a ∷ b ∷ c ∷ d ∷ e ∷ f ∷ p ∷ []) number = tt
+octal_fit (a ∷ b ∷ c ∷ d ∷ e ∷ f ∷ p ∷ q ∷ []) number = tt
+octal_fit (a ∷ b ∷ c ∷ d ∷ e ∷ f ∷ p ∷ q ∷ g ∷ []) number = tt
+octal_fit (a ∷ b ∷ c ∷ d ∷ e ∷ f ∷ p ∷ q ∷ g ∷ i ∷ []) number = tt
+octal_fit (a ∷ b ∷ c ∷ d ∷ e ∷ f ∷ p ∷ q ∷ g ∷ i ∷ j ∷ []) number = tt
+octal_fit (a ∷ b ∷ c ∷ d ∷ e ∷ f ∷ p ∷ q ∷ g ∷ i ∷ j ∷ k ∷ []) number = tt
+octal_fit (a ∷ b ∷ c ∷ d ∷ e ∷ f ∷ p ∷ q ∷ g ∷ i ∷ j ∷ k ∷ l ∷ []) number = tt
+octal_fit (a ∷ b ∷ c ∷ d ∷ e ∷ f ∷ p ∷ q ∷ g ∷ i ∷ j ∷ k ∷ l ∷ m ∷ []) number = tt
+
 unpacked_fit : (packing : Packing) (bs : List ℕ) → AreBelow 256 bs → Fit (unpacked packing bs)
 unfolding unpacked
 unpacked_fit CoreDump bs h = core_fit bs 1 h
 unpacked_fit HighDensity bs h = dense_fit bs 1 h
 unpacked_fit AnsiAscii bs h = ascii_fit bs 1 h
 unpacked_fit Simh bs h = simh_fit bs 1 h
+unpacked_fit Octal bs h = octal_fit bs 1
 
 ok_fit : (ws : List ℕ) (r : Words) → r ≡ Ok ws → Fit r → AreBelow (2 ^ 36) ws
 ok_fit ws (Ok vs) e f =

@@ -7,7 +7,7 @@ use Rattle.std.proofs.lemmas.Bool.Decides.{nat_tests}
 use Rattle.std.proofs.lemmas.Grind.{common_steps}
 use Rattle.std.specs.Prelude.{◌≢◌, flat_map, reverse}
 use Rattle.image_files.specs.Images.{Rises}
-use Rattle.image_files.specs.Saves.{Loaded, Block, block_before, blocks_of, block_words, iowd, jrst, save_of}
+use Rattle.image_files.specs.Saves.{Block, block_before, blocks_of, block_words, iowd, jrst, save_of}
 use Rattle.image_files.specs.Writes.{IsWritten, closing, ending, is_apart}
 
 reverse_push : (out : List ℕ) (w : ℕ) → reverse (out ++ w ∷ []) ≡ w ∷ reverse out

@@ -4,3 +4,8 @@ pub mod Packings
 pub mod Unpacks
 pub mod Loads
 pub mod Writes
+pub mod Names
+pub mod CoreImages
+pub mod ImageAnswers
+pub mod Fits
+pub mod Texts

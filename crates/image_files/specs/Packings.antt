@@ -1,10 +1,12 @@
 -- Words of 36 bits in bytes of 8, as people keep them.
-use Rattle.std.specs.Prelude.{ℕ, ◌+◌, ◌*◌, ◌/◌, ◌%◌, ◌^◌, Bool, ◌==◌, ◌&&◌, nat_lt, List, [], ◌∷◌, flat_map}
+use Rattle.std.specs.Prelude.{ℕ, ◌+◌, ◌*◌, ◌/◌, ◌%◌, ◌^◌, Bool, ◌==◌, ◌&&◌, nat_le, nat_lt, List, [], ◌∷◌, ◌++◌, codes, flat_map}
 use Rattle.std.specs.Prelude.{Result, Ok, Err, if◌then◌else◌}
+use Rattle.word36.specs.Octal.{word_text}
+use Rattle.word36.specs.Words.{joined}
 use Rattle.image_files.specs.declared.packings.Packing.{Packing}
-use Rattle.image_files.specs.declared.packings.Packing.TheVariants.{CoreDump, HighDensity, AnsiAscii, Simh}
+use Rattle.image_files.specs.declared.packings.Packing.TheVariants.{CoreDump, HighDensity, AnsiAscii, Simh, Octal}
 use Rattle.image_files.specs.declared.packings.PackErrorKind.{PackErrorKind}
-use Rattle.image_files.specs.declared.packings.PackErrorKind.TheVariants.{CutShort, ExtraBits}
+use Rattle.image_files.specs.declared.packings.PackErrorKind.TheVariants.{CutShort, ExtraBits, NotOctal}
 
 -- ---- the bytes of words
 
@@ -37,11 +39,16 @@ dense_bytes [] = []
 dense_bytes (w ∷ []) = dense_last w
 dense_bytes (w ∷ v ∷ ws) = dense_pair w v (dense_bytes ws)
 
+-- octal: the two halves, on a line
+abbrev pub octal_bytes : ℕ → List ℕ
+octal_bytes w = word_text w ++ codes "\n"
+
 unfoldable pub packed : Packing → List ℕ → List ℕ
 packed CoreDump ws = flat_map core_bytes ws
 packed HighDensity ws = dense_bytes ws
 packed AnsiAscii ws = flat_map ascii_bytes ws
 packed Simh ws = flat_map simh_bytes ws
+packed Octal ws = flat_map octal_bytes ws
 
 -- ---- the words of bytes
 
@@ -60,9 +67,13 @@ abbrev pub with_word : ℕ → Words → Words
 with_word w (Ok ws) = Ok (w ∷ ws)
 with_word w (Err fault) = Err fault
 
--- a word before others, where its bytes have no bits that the packing leaves 0
+-- a word before others, where its bytes are those of a word; or what is wrong with them
+abbrev pub word_or : PackErrorKind → ℕ → Bool → ℕ → Words → Words
+word_or kind number fits w more = if fits then with_word w more else wrong_at number kind
+
+-- where they have no bits that the packing leaves 0
 abbrev pub word_then : ℕ → Bool → ℕ → Words → Words
-word_then number fits w more = if fits then with_word w more else wrong_at number ExtraBits
+word_then number fits w more = word_or ExtraBits number fits w more
 
 abbrev pub five_bytes : ℕ → ℕ → ℕ → ℕ → ℕ → ℕ
 five_bytes a b c d e = a * 2 ^ 28 + b * 2 ^ 20 + c * 2 ^ 12 + d * 2 ^ 4 + e
@@ -108,9 +119,33 @@ dense_words number (a ∷ b ∷ c ∷ d ∷ e ∷ f ∷ g ∷ h ∷ i ∷ bs) =
 dense_words number (a ∷ b ∷ c ∷ d ∷ e ∷ f ∷ bs) = wrong_at (number + 1) CutShort
 dense_words number _ = wrong_at number CutShort
 
+-- a digit has its character: 48 is `0`
+abbrev pub is_octal_digit : ℕ → Bool
+is_octal_digit c = nat_le 48 c && nat_lt c 56
+
+abbrev pub are_octal_digits : ℕ → ℕ → ℕ → ℕ → ℕ → ℕ → Bool
+are_octal_digits a b c d e f =
+    is_octal_digit a && (is_octal_digit b && (is_octal_digit c && (is_octal_digit d && (is_octal_digit e && is_octal_digit f))))
+
+-- the half of a word that six digits are; each leaves its own number when it is divided by 8
+abbrev pub half_value : ℕ → ℕ → ℕ → ℕ → ℕ → ℕ → ℕ
+half_value a b c d e f = ((((a % 8 * 8 + b % 8) * 8 + c % 8) * 8 + d % 8) * 8 + e % 8) * 8 + f % 8
+
+-- two commas between the halves, and a line feed behind them
+abbrev pub are_marks : ℕ → ℕ → ℕ → Bool
+are_marks p q z = p == 44 && (q == 44 && z == 10)
+
+unfoldable pub octal_words : ℕ → List ℕ → Words
+octal_words number [] = Ok []
+octal_words number (a ∷ b ∷ c ∷ d ∷ e ∷ f ∷ p ∷ q ∷ g ∷ h ∷ i ∷ j ∷ k ∷ l ∷ z ∷ bs) =
+    word_or NotOctal number (are_octal_digits a b c d e f && (are_octal_digits g h i j k l && are_marks p q z))
+    (joined (half_value a b c d e f) (half_value g h i j k l)) (octal_words (number + 1) bs)
+octal_words number _ = wrong_at number CutShort
+
 -- the words of bytes, or the first one at fault
 unfoldable pub unpacked : Packing → List ℕ → Words
 unpacked CoreDump bs = core_words 1 bs
 unpacked HighDensity bs = dense_words 1 bs
 unpacked AnsiAscii bs = ascii_words 1 bs
 unpacked Simh bs = simh_words 1 bs
+unpacked Octal bs = octal_words 1 bs

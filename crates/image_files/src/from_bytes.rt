@@ -4,6 +4,7 @@ ghost use Rattle.image_files.specs.Packings.{unpacked, core_words, ascii_words, 
 ghost use Rattle.image_files.specs.Packings.{ascii_value, are_characters, simh_value, is_simh};
 ghost use Rattle.image_files.specs.Unpacks.{Unpacks, with_words};
 
+use crate::octal_lines::unpack_octal;
 use crate::packings::{PackError, PackErrorKind, Packing};
 use std::alloc::Global;
 use word36::Word;
@@ -215,5 +216,6 @@ pub fn unpack(alloc: Global, packing: Packing, bytes: &[u8]) -> Result<Vec<Word>
         Packing::HighDensity => unpack_dense(alloc, bytes),
         Packing::AnsiAscii => unpack_ascii(alloc, bytes),
         Packing::Simh => unpack_simh(alloc, bytes),
+        Packing::Octal => unpack_octal(alloc, bytes),
     }
 }

@@ -17,6 +17,8 @@ pub enum Packing {
     AnsiAscii,
     /// As SIMH keeps words: eight bytes a word, the lowest byte first.
     Simh,
+    /// Text: a line a word, its two halves in octal, as `254000,,000140`.
+    Octal,
 }
 
 /// What is wrong with the bytes of a word.
@@ -26,6 +28,8 @@ pub enum PackErrorKind {
     CutShort,
     /// A bit is set that the packing leaves 0.
     ExtraBits,
+    /// A line is no word in octal.
+    NotOctal,
 }
 
 /// Why bytes are not those of words.

@@ -2,6 +2,7 @@
 ghost use Rattle.std.specs.Prelude.{◌≡◌, [], IfOk, flat_map};
 ghost use Rattle.image_files.specs.Packings.{packed, core_bytes, ascii_bytes, simh_bytes, dense_bytes, dense_pair, dense_last};
 
+use crate::octal_lines::pack_octal;
 use crate::packings::Packing;
 use std::alloc::{AllocError, Global};
 use word36::Word;
@@ -141,5 +142,6 @@ pub fn pack(alloc: Global, packing: Packing, words: &[Word]) -> Result<Vec<u8>, 
         Packing::HighDensity => pack_dense(alloc, words),
         Packing::AnsiAscii => pack_ascii(alloc, words),
         Packing::Simh => pack_simh(alloc, words),
+        Packing::Octal => pack_octal(alloc, words),
     }
 }

@@ -1,2 +1,1 @@
 pub mod Transcripts
-pub mod Reads

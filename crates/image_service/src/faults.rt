@@ -1,11 +1,13 @@
 //! What is wrong with an input, as a line.
-ghost use Rattle.std.specs.Prelude.{◌≡◌, ◌++◌, codes, decimal, OnOk};
-ghost use Rattle.image_service.specs.Transcripts.{ending_text, numbered_text, pack_kind_text, save_kind_text};
+ghost use Rattle.std.specs.Prelude.{◌≡◌, ◌++◌, codes, decimal, IfOk, OnOk};
+ghost use Rattle.image_files.specs.Fits.{packing_that_fits};
+ghost use Rattle.image_service.specs.declared.endings.Ending.TheVariants as endings;
+ghost use Rattle.image_service.specs.Transcripts.{ending_text, fault_line, numbered_text, pack_kind_text, save_kind_text};
 
 use crate::endings::Ending;
-use image_files::{PackErrorKind, SaveErrorKind};
+use image_files::{ImageFault, PackErrorKind, SaveErrorKind, Wanted, packing_that_fits};
 use script_io::push_decimal;
-use std::alloc::AllocError;
+use std::alloc::{AllocError, Global};
 
 /// The name of what is wrong with the bytes of a word.
 fn pack_kind_text(kind: PackErrorKind) -> &'static str
@@ -14,6 +16,7 @@ fn pack_kind_text(kind: PackErrorKind) -> &'static str
     match kind {
         PackErrorKind::CutShort => "CUTSHORT",
         PackErrorKind::ExtraBits => "EXTRABITS",
+        PackErrorKind::NotOctal => "NOTOCTAL",
     }
 }
 
@@ -57,14 +60,43 @@ fn push_source_fault(out: &mut Vec<u8>, line: usize, code: u8) -> Result<(), All
     Ok(())
 }
 
+/// Adds `?WORD n KIND` or `?SAVE n KIND`.
+fn push_fault(out: &mut Vec<u8>, fault: ImageFault) -> Result<(), AllocError>
+    ensures { OnOk result (out.new.items ≡ out.old.items ++ fault_line fault) }
+{
+    match fault {
+        ImageFault::Word { number, kind } => {
+            push_numbered(out, "?WORD ", number, pack_kind_text(kind))
+        }
+        ImageFault::Save { number, kind } => {
+            push_numbered(out, "?SAVE ", number, save_kind_text(kind))
+        }
+    }
+}
+
 /// Adds what is said of an ending: nothing where all is done.
 pub fn push_ending(out: &mut Vec<u8>, ending: Ending) -> Result<(), AllocError>
     ensures { OnOk result (out.new.items ≡ out.old.items ++ ending_text ending) }
 {
     match ending {
         Ending::Done => Ok(()),
-        Ending::Word { number, kind } => push_numbered(out, "?WORD ", number, pack_kind_text(kind)),
-        Ending::Save { number, kind } => push_numbered(out, "?SAVE ", number, save_kind_text(kind)),
+        Ending::File { fault, other: _ } => push_fault(out, fault),
         Ending::Source { line, code } => push_source_fault(out, line, code),
     }
+}
+
+/// Adds what is said of a file that is not what is wanted, by its first fault, and gives how the service ends.
+pub fn refuse(
+    alloc: Global,
+    out: &mut Vec<u8>,
+    wanted: Wanted,
+    bytes: &[u8],
+    fault: ImageFault,
+) -> Result<Ending, AllocError>
+    ensures ending { IfOk result (λ ending. ending ≡ endings.File fault (packing_that_fits wanted bytes.now)) }
+    ensures told { OnOk result (out.new.items ≡ out.old.items ++ fault_line fault) }
+{
+    let other = packing_that_fits(alloc, wanted, bytes)?;
+    push_fault(out, fault)?;
+    Ok(Ending::File { fault, other })
 }

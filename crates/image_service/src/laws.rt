@@ -7,14 +7,13 @@ ghost use Rattle.image_files.specs.Saves.{Loaded, save_of};
 ghost use Rattle.mac_source.specs.declared.shown.Shown.{Shown as ShownView};
 ghost use Rattle.script_io.specs.Transcripts.{closed};
 ghost use Rattle.image_service.specs.declared.endings.Ending.TheVariants.{Done};
-ghost use Rattle.image_service.specs.declared.endings.Form.TheVariants.{Packed};
 ghost use Rattle.image_service.specs.Transcripts.{repacked, saved, sourced};
 
 /// The file of an image comes back from its source, saved again.
 #[tactic(auto, using(crate::proofs::Back::file_back))]
 pub fn saved_sources_give_files_back()
     ensures { (packing : PackingView) (shown : ShownView) (image : Loaded) → IsImage image.words image.start → WordsFit image.words →
-        saved (Packed packing) (sourced packing shown (packed packing (save_of image))).text
+        saved packing (sourced packing shown (packed packing (save_of image))).text
         ≡ closed (packed packing (save_of image)) Done }
 {}
 
@@ -22,5 +21,5 @@ pub fn saved_sources_give_files_back()
 #[tactic(auto, using(crate::proofs::Back::words_back))]
 pub fn repacked_there_and_back()
     ensures { (from to : PackingView) (bytes words : List ℕ) → All (λ b. b < 256) bytes → unpacked from bytes ≡ Ok words →
-        repacked to (Packed from) (repacked from (Packed to) bytes).text ≡ closed bytes Done }
+        repacked to from (repacked from to bytes).text ≡ closed bytes Done }
 {}

@@ -5,12 +5,11 @@ mod endings;
 mod faults;
 mod laws;
 mod listing;
-mod reading;
 mod repacking;
 mod saving;
 mod sourcing;
 
-pub use endings::{Ending, Form};
+pub use endings::Ending;
 pub use laws::{repacked_there_and_back, saved_sources_give_files_back};
 pub use listing::serve_list;
 pub use repacking::serve_words;

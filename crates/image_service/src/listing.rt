@@ -6,9 +6,8 @@ ghost use Rattle.script_io.specs.Serves.{Serves, Blames};
 ghost use Rattle.image_service.specs.Transcripts.{listed};
 
 use crate::endings::Ending;
-use crate::faults::push_ending;
-use crate::reading::{Refused, read_image};
-use image_files::Packing;
+use crate::faults::refuse;
+use image_files::{ImageError, Packing, Wanted, read_image};
 use script_io::{
     ByteIn, ByteOut, ServeFailure, TextService, TextSession, push_word, serve_session,
 };
@@ -69,11 +68,8 @@ impl TextService for Lister {
                 push_image(out, &image)?;
                 Ok(Ending::Done)
             }
-            Err(Refused::At(ending)) => {
-                push_ending(out, ending)?;
-                Ok(ending)
-            }
-            Err(Refused::Memory) => Err(AllocError),
+            Err(ImageError::Fault(fault)) => refuse(self.alloc, out, Wanted::Image, bytes, fault),
+            Err(ImageError::Memory) => Err(AllocError),
         }
     }
 }

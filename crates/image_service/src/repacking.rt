@@ -1,62 +1,36 @@
-//! `image words`: words in another form.
-ghost use Rattle.std.specs.Prelude.{◌≡◌, ◌≤◌, ◌^◌, ◌++◌, false, IfErr, OnOk, flat_map};
+//! `image words`: words in another packing.
+ghost use Rattle.std.specs.Prelude.{◌≡◌, ◌≤◌, ◌^◌, ◌++◌, false, IfErr, OnOk};
 ghost use Rattle.script_io.specs.Serves.{Serves, Blames};
-ghost use Rattle.image_service.specs.Transcripts.{octal_line, repacked, written};
+ghost use Rattle.image_files.specs.Packings.{packed};
+ghost use Rattle.image_service.specs.Transcripts.{repacked};
 
-use crate::endings::{Ending, Form};
-use crate::faults::push_ending;
-use image_files::{PackError, Packing, pack, unpack};
-use script_io::{
-    ByteIn, ByteOut, ServeFailure, TextService, TextSession, push_word, serve_session,
-};
+use crate::endings::Ending;
+use crate::faults::refuse;
+use image_files::{ImageError, Packing, Wanted, pack, read_words};
+use script_io::{ByteIn, ByteOut, ServeFailure, TextService, TextSession, serve_session};
 use std::alloc::{AllocError, Global};
 use word36::Word;
 
-/// Adds a word in octal, on a line.
-#[tactic(auto, using(std::proofs::Common::append_assoc))]
-fn push_octal_line(out: &mut Vec<u8>, word: Word) -> Result<(), AllocError>
-    ensures { OnOk result (out.new.items ≡ out.old.items ++ octal_line word) }
-{
-    push_word(out, word)?;
-    out.push(b'\n')?;
-    Ok(())
-}
-
-/// Adds words in octal, a line a word.
-fn push_octal(out: &mut Vec<u8>, words: &[Word]) -> Result<(), AllocError>
-    ensures { OnOk result (out.new.items ≡ out.old.items ++ flat_map octal_line words.now) }
-{
-    for word in words {
-        push_octal_line(out, *word)?;
-    }
-    Ok(())
-}
-
-/// Adds words in a form.
+/// Adds words in a packing.
 pub fn push_words(
     alloc: Global,
     out: &mut Vec<u8>,
-    form: Form,
+    packing: Packing,
     words: &[Word],
 ) -> Result<(), AllocError>
-    ensures { OnOk result (out.new.items ≡ out.old.items ++ written form words.now) }
+    ensures { OnOk result (out.new.items ≡ out.old.items ++ packed packing words.now) }
 {
-    match form {
-        Form::Packed(packing) => {
-            let bytes = pack(alloc, packing, words)?;
-            out.extend_from_slice(bytes.as_slice())?;
-            Ok(())
-        }
-        Form::Octal => push_octal(out, words),
-    }
+    let bytes = pack(alloc, packing, words)?;
+    out.extend_from_slice(bytes.as_slice())?;
+    Ok(())
 }
 
-/// Words that are read in one packing and written in another form, as a service of texts.
+/// Words that are read in one packing and written in another, as a service of texts.
 #[derive(Drop)]
 struct Repacker {
     alloc: Global,
     from: Packing,
-    to: Form,
+    to: Packing,
 }
 
 impl TextService for Repacker {
@@ -66,26 +40,22 @@ impl TextService for Repacker {
 
     #[tactic(auto, unfolding(crate::specs::Transcripts::repacked))]
     fn take_text(&mut self, bytes: &[u8], out: &mut Vec<u8>) -> Result<Ending, AllocError> {
-        match unpack(self.alloc, self.from, bytes) {
+        match read_words(self.alloc, self.from, bytes) {
             Ok(words) => {
                 push_words(self.alloc, out, self.to, words.as_slice())?;
                 Ok(Ending::Done)
             }
-            Err(PackError::Word { number, kind }) => {
-                let ending = Ending::Word { number, kind };
-                push_ending(out, ending)?;
-                Ok(ending)
-            }
-            Err(PackError::Memory) => Err(AllocError),
+            Err(ImageError::Fault(fault)) => refuse(self.alloc, out, Wanted::Words, bytes, fault),
+            Err(ImageError::Memory) => Err(AllocError),
         }
     }
 }
 
-/// Serves the words of bytes, in another form.
+/// Serves the words of bytes, in another packing.
 pub fn serve_words<R: ByteIn, W: ByteOut>(
     alloc: Global,
     from: Packing,
-    to: Form,
+    to: Packing,
     reader: &mut R,
     writer: &mut W,
 ) -> Result<Ending, ServeFailure>

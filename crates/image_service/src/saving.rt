@@ -3,10 +3,10 @@ ghost use Rattle.std.specs.Prelude.{◌≡◌, ◌≤◌, ◌^◌, false, IfErr}
 ghost use Rattle.script_io.specs.Serves.{Serves, Blames};
 ghost use Rattle.image_service.specs.Transcripts.{saved};
 
-use crate::endings::{Ending, Form};
+use crate::endings::Ending;
 use crate::faults::push_ending;
 use crate::repacking::push_words;
-use image_files::write_save;
+use image_files::{Packing, write_save};
 use mac_asm::{AsmError, assemble};
 use script_io::{ByteIn, ByteOut, ServeFailure, TextService, TextSession, serve_session};
 use std::alloc::{AllocError, Global};
@@ -15,7 +15,7 @@ use std::alloc::{AllocError, Global};
 #[derive(Drop)]
 struct Saver {
     alloc: Global,
-    to: Form,
+    to: Packing,
 }
 
 impl TextService for Saver {
@@ -47,7 +47,7 @@ impl TextService for Saver {
 /// Serves the core image of a source.
 pub fn serve_save<R: ByteIn, W: ByteOut>(
     alloc: Global,
-    to: Form,
+    to: Packing,
     reader: &mut R,
     writer: &mut W,
 ) -> Result<Ending, ServeFailure>

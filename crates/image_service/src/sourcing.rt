@@ -4,9 +4,8 @@ ghost use Rattle.script_io.specs.Serves.{Serves, Blames};
 ghost use Rattle.image_service.specs.Transcripts.{sourced};
 
 use crate::endings::Ending;
-use crate::faults::push_ending;
-use crate::reading::{Refused, read_image};
-use image_files::Packing;
+use crate::faults::refuse;
+use image_files::{ImageError, Packing, Wanted, read_image};
 use mac_source::{Shown, source_of};
 use script_io::{ByteIn, ByteOut, ServeFailure, TextService, TextSession, serve_session};
 use std::alloc::{AllocError, Global};
@@ -32,11 +31,8 @@ impl TextService for Sourcer {
                 out.extend_from_slice(text.as_slice())?;
                 Ok(Ending::Done)
             }
-            Err(Refused::At(ending)) => {
-                push_ending(out, ending)?;
-                Ok(ending)
-            }
-            Err(Refused::Memory) => Err(AllocError),
+            Err(ImageError::Fault(fault)) => refuse(self.alloc, out, Wanted::Image, bytes, fault),
+            Err(ImageError::Memory) => Err(AllocError),
         }
     }
 }

@@ -1,17 +1,17 @@
 //! The option `--from`, by which a program is told how core images are packed.
 
-use crate::names::packing_named;
 use clap::{Arg, ArgMatches};
-use image_files::Packing;
+use image_files::{Packing, packing_named};
 use program_shell::Wrong;
 use std::alloc::Global;
 
 /// `--from`.
 const FROM: &str =
-    "how the words of a FILE.sav, a core image, are packed: core, dense, ascii or simh [default: core]";
+    "how the words of a FILE.sav, a core image, are packed: core, dense, ascii, simh or octal [default: core]";
 
 /// What is wrong with a form of another name.
-const WRONG_FORM: &str = "invalid value for '--from <FORM>': core, dense, ascii or simh is wanted";
+const WRONG_FORM: &str =
+    "invalid value for '--from <FORM>': core, dense, ascii, simh or octal is wanted";
 
 /// The option `--from FORM`.
 pub fn make_from<'a>(alloc: Global) -> Arg<'a> {

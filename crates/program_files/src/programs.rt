@@ -2,14 +2,11 @@
 ghost use Rattle.std.specs.Prelude.{◌≡◌};
 ghost use Rattle.mac_asm.specs.Outcome.{outcome_of};
 ghost use Rattle.source_labels.specs.Programs.{AssemblesTo};
-ghost use Rattle.program_files.specs.Files.{IsImageName, IsSourceName, image_in};
-ghost use Rattle.program_files.specs.Reads.{Answers};
+ghost use Rattle.program_files.specs.Files.{IsImageName, IsSourceName};
+ghost use Rattle.program_files.specs.Reads.{AnswersImage};
 
-use crate::faults::ImageError;
-use crate::images::read_image;
 use crate::names::is_image_name;
-use crate::reasons::fault_text;
-use image_files::Packing;
+use image_files::{ImageError, Packing, Wanted, fault_text, packing_that_fits, read_image};
 use source_labels::{Assembled, Literals, Places, Program, Source, assemble_source};
 use std::alloc::{AllocError, Global};
 use word36::Image;
@@ -34,12 +31,13 @@ fn load_image<'a>(
     file: &Source<'a>,
     from: Packing,
 ) -> Result<Assembled<'a>, AllocError>
-    ensures { Answers result file.now.file.now (image_in from file.now.text.items) }
+    ensures { AnswersImage result file.now.file.now from file.now.text.items }
 {
     match read_image(alloc, from, file.text.as_slice()) {
         Ok(image) => Ok(Assembled::Program(program_with(alloc, file.file, image))),
         Err(ImageError::Fault(fault)) => {
-            Ok(Assembled::Refused(fault_text(alloc, file.file, fault)?))
+            let other = packing_that_fits(alloc, Wanted::Image, file.text.as_slice())?;
+            Ok(Assembled::Refused(fault_text(alloc, file.file, fault, other)?))
         }
         Err(ImageError::Memory) => Err(AllocError),
     }
@@ -54,7 +52,7 @@ pub fn read_program<'a>(
     from: Packing,
     most: usize,
 ) -> Result<Assembled<'a>, AllocError>
-    ensures image { IsImageName file.now.file.now → Answers result file.now.file.now (image_in from file.now.text.items) }
+    ensures image { IsImageName file.now.file.now → AnswersImage result file.now.file.now from file.now.text.items }
     ensures source { IsSourceName file.now.file.now → AssemblesTo result (outcome_of file.now.text.items) }
 {
     if is_image_name(file.file) {

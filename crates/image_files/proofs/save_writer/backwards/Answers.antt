@@ -1,4 +1,4 @@
-use Rattle.std.proofs.Common.{◌+◌, ◌-◌, ◌<◌, ◌^◌, drop, length, arith}
+use Rattle.std.proofs.Common.{◌-◌, ◌<◌, ◌^◌, drop, length, arith}
 use Rattle.image_files.specs.Saves.{blocks_of}
 use Rattle.image_files.proofs.WriteLemmas.{address_below, nothing_written, word_written, all_written}
 use Rattle.image_files.proofs.save_writer.backwards.Goals as goal

@@ -1,6 +1,7 @@
 //! What may be wrong with the file of a core image.
 
-use image_files::{PackErrorKind, SaveErrorKind};
+use crate::packings::PackErrorKind;
+use crate::saves::SaveErrorKind;
 
 /// What is wrong with the file of a core image. Its words are numbered from 1.
 #[derive(Clone, Copy, Debug, PartialEq, Eq, Drop)]

@@ -1,9 +1,11 @@
-//! What is wrong with the file of a core image, in words.
+//! What is wrong with a file of words, in words.
 ghost use Rattle.std.specs.Prelude.{◌≡◌, ◌++◌, IfOk, OnOk};
-ghost use Rattle.program_files.specs.Texts.{fault_line, fault_text, numbered_text, pack_reason, save_reason};
+ghost use Rattle.image_files.specs.Texts.{advice_text, fault_line, fault_text, numbered_text, pack_reason, save_reason};
 
 use crate::faults::ImageFault;
-use image_files::{PackErrorKind, SaveErrorKind};
+use crate::names::packing_name;
+use crate::packings::{PackErrorKind, Packing};
+use crate::saves::SaveErrorKind;
 use script_io::push_decimal;
 use std::alloc::{AllocError, Global};
 
@@ -14,6 +16,7 @@ fn pack_reason(kind: PackErrorKind) -> &'static str
     match kind {
         PackErrorKind::CutShort => "the file ends within it",
         PackErrorKind::ExtraBits => "a bit is set that this packing leaves 0",
+        PackErrorKind::NotOctal => "its line is no word in octal, as 254000,,000140",
     }
 }
 
@@ -59,15 +62,40 @@ fn push_fault(out: &mut Vec<u8>, file: &str, fault: ImageFault) -> Result<(), Al
     }
 }
 
-/// What is wrong with the file of a core image, in whole lines: which word, what is wrong with it, and that the file may be
-/// packed another way.
-pub fn fault_text(alloc: Global, file: &str, fault: ImageFault) -> Result<Vec<u8>, AllocError>
-    ensures { IfOk result (λ text. text.items ≡ fault_text file.now fault) }
+/// Adds a line on the packing that a file could be in.
+#[tactic(auto, using(std::proofs::Common::append_assoc))]
+fn push_advice(out: &mut Vec<u8>, other: Option<Packing>) -> Result<(), AllocError>
+    ensures { OnOk result (out.new.items ≡ out.old.items ++ advice_text other) }
+{
+    match other {
+        Some(packing) => {
+            out.extend_from_slice(b"\n    it can be read by --from ")?;
+            out.extend_from_slice(packing_name(packing).as_bytes())?;
+            out.push(b'\n')?;
+            Ok(())
+        }
+        None => {
+            out.extend_from_slice(
+                b"\n    --from says how its words are packed: core, dense, ascii, simh or octal\n",
+            )?;
+            Ok(())
+        }
+    }
+}
+
+/// What is wrong with a file of words, in whole lines: which word, what is wrong with it, and the packing that the file could
+/// be in, where there is one.
+#[tactic(auto, using(std::proofs::Common::append_assoc))]
+pub fn fault_text(
+    alloc: Global,
+    file: &str,
+    fault: ImageFault,
+    other: Option<Packing>,
+) -> Result<Vec<u8>, AllocError>
+    ensures { IfOk result (λ text. text.items ≡ fault_text file.now fault other) }
 {
     let mut text = Vec::new(alloc);
     push_fault(&mut text, file, fault)?;
-    text.extend_from_slice(
-        b"\n    --from says how its words are packed: core, dense, ascii or simh\n",
-    )?;
+    push_advice(&mut text, other)?;
     Ok(text)
 }

@@ -1,7 +1,0 @@
-use Rattle.std.proofs.Common.{◌≡◌, ◌++◌, drop}
-use Rattle.std.specs.List.{flat_map}
-use Rattle.image_service.specs.Transcripts.{octal_line}
-use Rattle.image_service.proofs.repacking.push_octal.Given as goal
-
-abbrev pub invariant-loop-word : goal.invariant-loop-word
-invariant-loop-word l = l.out.items ++ flat_map octal_line (drop l.word-index l.words) ≡ l.initial.out.items ++ flat_map octal_line l.words
