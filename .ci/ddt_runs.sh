@@ -29,8 +29,10 @@ for session in "$top"/examples/*.ddt "$top"/tests/ddt/*.ddt; do
 done
 
 # what a session writes by .SAVE is the session
-{ cat "$top/tests/ddt/back.ddt"; echo .SAVE saved; } | "$program" counter.mac >first
-echo .DO saved | "$program" counter.mac | grep -v '^\* ' | cmp -s - first || say "a saved session gives other answers"
+for session in back conditions; do
+    { cat "$top/tests/ddt/$session.ddt"; echo .SAVE saved; } | "$program" counter.mac >first
+    echo .DO saved | "$program" counter.mac | grep -v '^\* ' | cmp -s - first || say "$session: the saved session gives other answers"
+done
 
 # a file may name no other; its lines are as long as those that are typed, and may end in CR LF or, the last, in nothing
 { echo .DO other; printf '%257s\n' '.='; printf '.=\r\n.='; } >lines
@@ -61,7 +63,7 @@ wait
 # lines of chance: tokens of the grammar, in any order, and bytes
 awk 'BEGIN {
     srand(7)
-    count = split("LOOP BLK TURNS 5 777777 12. . $Q + - ,, / = _ ; ^ $S $C $T $H $8R $B $3B $X 2$X $W $N $E < > ( ) @ MOVE EXIT .JOB .JOBS .LOCKS .WAITS .REGS .BACK .STEP .TICK .TYPE .TAKE .WATCH .HISTORY .FORWARD .EX .HELP .BREAK CIRCLE GRANT LOCK TO WRITE 0 1 2 63", token, " ")
+    count = split("LOOP BLK TURNS 5 777777 12. . $Q + - ,, / = _ ; ^ $S $C $T $H $8R $B $3B $X 2$X $W $N $E < > ( ) @ MOVE EXIT .JOB .JOBS .LOCKS .WAITS .REGS .BACK .STEP .TICK .TYPE .TAKE .WATCH .HISTORY .FORWARD .EX .HELP .BREAK CIRCLE GRANT LOCK TO WRITE IF TIMES <> 0 1 2 63", token, " ")
     for (line = 0; line < 10000; line++) {
         text = ""
         for (parts = int(rand() * 5); parts >= 0; parts--)

@@ -1,5 +1,6 @@
 //! The commands of the debugger.
 
+use ddt_breakpoints::Condition;
 use word36::Word;
 
 /// How the debugger shows a word.
@@ -61,6 +62,19 @@ pub struct Search {
     pub mask: Word,
 }
 
+/// A breakpoint to be set: `a$nB IF b=v TIMES n`.
+#[derive(Clone, Copy)]
+pub struct NewBreakpoint {
+    /// Its address.
+    pub address: u32,
+    /// Its number, 1 to 8, or `None` for a free one.
+    pub number: Option<u8>,
+    /// What has to hold where the job comes there, if anything.
+    pub condition: Option<Condition>,
+    /// From which time on it stops the job that comes there: 1 for each time.
+    pub times: u32,
+}
+
 /// A command, with all its values computed. Each number is an address of the open job where nothing else is said.
 #[derive(Clone, Copy)]
 pub enum Command<'a> {
@@ -82,8 +96,8 @@ pub enum Command<'a> {
     SetMode(OutputMode),
     /// `=`, `_` or `;`: shows the last quantity once more.
     Retype(Retype),
-    /// `a$B` or `a$nB`: sets a breakpoint, that of number n, 1 to 8, or a free one.
-    SetBreakpoint(u32, Option<u8>),
+    /// `a$B` or `a$nB`: sets a breakpoint.
+    SetBreakpoint(NewBreakpoint),
     /// `0$nB`: clears breakpoint n, 1 to 8.
     ClearBreakpoint(u8),
     /// `$B`: lists the breakpoints and what else stops a run.

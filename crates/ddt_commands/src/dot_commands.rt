@@ -1,9 +1,10 @@
 //! Dot commands: those that begin with a point, as `.JOBS`.
 
+use crate::breakpoints::read_break_at;
 use crate::commands::Command;
 use crate::line_errors::LineError;
 use crate::numbers::pointed_decimal;
-use crate::reader::cut_at;
+use crate::reader::{cut_at, cut_word};
 use crate::values::{Scope, read_address};
 use word36::{JOBS, LINES};
 
@@ -83,16 +84,6 @@ fn dot_command(text: &[u8]) -> Option<DotCommand> {
     None
 }
 
-/// Cuts a text at its first blank: its first word, and the rest without the blanks round it.
-fn cut_word(text: &[u8]) -> (&[u8], &[u8]) {
-    for (i, byte) in text.iter().enumerate() {
-        if *byte == b' ' || *byte == b'\t' {
-            return (&text[..i], text[i + 1..].trim_ascii());
-        }
-    }
-    (text, &[])
-}
-
 /// Reads a decimal number from `least` to `most`, with or without a point behind it; `default` where the text is empty.
 fn count(text: &[u8], least: u64, most: u64, default: u64) -> Result<u64, LineError> {
     if text.is_empty() {
@@ -146,7 +137,7 @@ fn read_back<'a>(text: &'a [u8], scope: &Scope<'_>) -> Result<Command<'a>, LineE
     }
 }
 
-/// Reads `.BREAK a`, `.BREAK LOCK name`, `.BREAK GRANT` and `.BREAK CIRCLE`.
+/// Reads `.BREAK a` with its limits, `.BREAK LOCK name`, `.BREAK GRANT` and `.BREAK CIRCLE`.
 fn read_break<'a>(text: &'a [u8], scope: &Scope<'_>) -> Result<Command<'a>, LineError> {
     let (word, rest) = cut_word(text);
     if word.eq_ignore_ascii_case(b"GRANT") {
@@ -154,7 +145,7 @@ fn read_break<'a>(text: &'a [u8], scope: &Scope<'_>) -> Result<Command<'a>, Line
     } else if word.eq_ignore_ascii_case(b"CIRCLE") {
         Ok(Command::BreakCircle)
     } else if !word.eq_ignore_ascii_case(b"LOCK") {
-        Ok(Command::SetBreakpoint(read_address(text, scope)?, None))
+        read_break_at(text, scope)
     } else if rest.is_empty() {
         Err(LineError::NoLock)
     } else {

@@ -1,9 +1,11 @@
 //! How a typed line becomes a command of the debugger, in the manner of DDT, or what is wrong with it.
 #![tactic(auto)]
 
+mod breakpoints;
 mod characters;
 mod commands;
 mod dot_commands;
+mod escaped;
 mod line_errors;
 mod lines;
 mod numbers;
@@ -12,7 +14,7 @@ mod refusals;
 mod values;
 
 pub use characters::{Codes, ascii_codes, sixbit_codes};
-pub use commands::{Command, OutputMode, Retype, Search, SearchKind};
+pub use commands::{Command, NewBreakpoint, OutputMode, Retype, Search, SearchKind};
 pub use line_errors::LineError;
 pub use lines::read_line;
 pub use refusals::Refusal;

@@ -1,8 +1,10 @@
 //! What is wrong with a line.
 
 use crate::characters::{Codes, sixbit_codes};
+use crate::numbers::{DECIMALS, LEAST_RADIX, MOST_RADIX, MOST_TIMES};
+use ddt_breakpoints::BREAKPOINTS;
 use std::fmt;
-use word36::Word;
+use word36::{ADDRESSES, JOBS, LINES, Word};
 
 /// What is wrong with a line. It is written as `?` and the fault, or as `U` and an undefined symbol, without a line end.
 #[derive(Clone, Copy, Drop)]
@@ -43,6 +45,12 @@ pub enum LineError {
     NoAddress,
     /// The number before `$` is out of the range of its command.
     NoTimes,
+    /// The number behind TIMES is out of its range.
+    NoVisits,
+    /// What stands behind a breakpoint is no limit of one.
+    NoLimit,
+    /// What stands behind IF is no condition.
+    NoCondition,
     /// The mask of a search is missing.
     NoMask,
     /// There is no such radix.
@@ -68,32 +76,76 @@ fn write_undefined<W: fmt::Write>(name: u64, f: &mut fmt::Formatter<W>) -> fmt::
     write!(f, "U {name}")
 }
 
-impl fmt::Display for LineError {
-    fn fmt<W: fmt::Write>(&self, f: &mut fmt::Formatter<W>) -> fmt::Result {
-        let text = match *self {
-            LineError::Undefined(name) => return write_undefined(name, f),
+/// Writes the radix and the range of the numbers before `$P` and `$X` and behind TIMES.
+fn write_times<W: fmt::Write>(before: &str, f: &mut fmt::Formatter<W>) -> fmt::Result {
+    write!(
+        f,
+        "? {before} stands a number from 1 to {MOST_TIMES:o}, in octal; 20. is 20 in decimal"
+    )
+}
+
+impl LineError {
+    /// Its text, where that has no number.
+    fn text(&self) -> &'static str {
+        match *self {
             LineError::NoValue => "? a value is wanted",
-            LineError::NoCount(least, most) => return write_range(least, most, f),
-            LineError::NoDecimal => "? a decimal number is 0 to 2^40-1, with a point behind it",
             LineError::NoOctal => "? an octal number has digits from 0 to 7: 20. is 20 in decimal",
             LineError::NoEscape => "? there is no such command of $: .HELP lists them",
             LineError::NoParenthesis => "? a closing parenthesis is wanted",
             LineError::BehindValue => "? something stands behind the value",
-            LineError::LargeAddress => "? an address is 0 to 777777, in octal",
-            LineError::NoJob => "? a job has a number from 1 to 63, in decimal",
-            LineError::NoLine => "? a terminal line has a number from 0 to 63, in decimal",
             LineError::NoLock => "? a lock is named as in .BREAK LOCK A, or by its code as #17",
             LineError::NoFile => "? the name of a file is wanted",
             LineError::NoCommand => "? no such command: .HELP lists them",
             LineError::AsksForHelp => "? .HELP lists the commands, .QUIT ends the session",
-            LineError::NoBreakpoint => "? a breakpoint has a number from 1 to 8, in decimal",
             LineError::NoAddress => "? a place is wanted before $",
-            LineError::NoTimes =>
-                "? before $P and $X stands a number from 1 to 10000, in octal; 20. is 20 in decimal",
+            LineError::NoLimit => {
+                "? behind a breakpoint stand IF and a condition, TIMES and a number, or both in this order"
+            }
+            LineError::NoCondition => {
+                "? a condition is a place, one of = <> < > <= >=, and a value, as in IF COUNT>5"
+            }
             LineError::NoMask => "? a mask stands between < and >, as in 5<777>$W",
-            LineError::NoRadix => "? a radix is 2 to 16, in decimal",
-            LineError::BehindCommand => "? nothing may stand behind this command",
-        };
-        f.write_str(text)
+            _ => "? nothing may stand behind this command",
+        }
+    }
+}
+
+impl fmt::Display for LineError {
+    fn fmt<W: fmt::Write>(&self, f: &mut fmt::Formatter<W>) -> fmt::Result {
+        match *self {
+            LineError::Undefined(name) => write_undefined(name, f),
+            LineError::NoCount(least, most) => write_range(least, most, f),
+            LineError::NoDecimal => {
+                let most = DECIMALS - 1;
+                write!(
+                    f,
+                    "? a decimal number is 0 to {most}, with a point behind it"
+                )
+            }
+            LineError::LargeAddress => {
+                let last = ADDRESSES - 1;
+                write!(f, "? an address is 0 to {last:o}, in octal")
+            }
+            LineError::NoJob => write!(f, "? a job has a number from 1 to {JOBS}, in decimal"),
+            LineError::NoLine => {
+                let last = LINES - 1;
+                write!(
+                    f,
+                    "? a terminal line has a number from 0 to {last}, in decimal"
+                )
+            }
+            LineError::NoBreakpoint => {
+                write!(
+                    f,
+                    "? a breakpoint has a number from 1 to {BREAKPOINTS}, in decimal"
+                )
+            }
+            LineError::NoTimes => write_times("before $P and $X", f),
+            LineError::NoVisits => write_times("behind TIMES", f),
+            LineError::NoRadix => {
+                write!(f, "? a radix is {LEAST_RADIX} to {MOST_RADIX}, in decimal")
+            }
+            _ => f.write_str(self.text()),
+        }
     }
 }

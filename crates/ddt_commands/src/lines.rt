@@ -1,77 +1,14 @@
 //! Whole lines, each read as a command.
 
+use crate::breakpoints::{cut_limits, read_breakpoint};
 use crate::commands::{Command, OutputMode, Retype, Search, SearchKind};
 use crate::dot_commands::read_dot_command;
+use crate::escaped::{Escaped, cut_at_escape};
 use crate::line_errors::LineError;
-use crate::numbers::{decimal, octal};
-use crate::reader::{cut_at, cut_at_last};
+use crate::numbers::{LEAST_RADIX, MOST_RADIX, decimal, times};
+use crate::reader::cut_at;
 use crate::values::{Scope, read_address, read_value};
 use word36::Word;
-
-/// How many breakpoints there are.
-const BREAKPOINTS: u8 = 8;
-
-/// The largest number before `$P` and `$X`, 10000 octal.
-const MOST_TIMES: u64 = 0o10000;
-
-/// A command of `$`, as DDT's ESC is typed, cut into its parts.
-#[derive(Clone, Copy)]
-struct Escaped<'a> {
-    /// The whole line.
-    text: &'a [u8],
-    /// What stands before the last `$`.
-    before: &'a [u8],
-    /// The digits behind it.
-    digits: &'a [u8],
-    /// The letter behind them, in upper case.
-    letter: u8,
-}
-
-/// Whether all characters are decimal digits.
-fn are_digits(text: &[u8]) -> bool {
-    for byte in text {
-        if !byte.is_ascii_digit() {
-            return false;
-        }
-    }
-    true
-}
-
-/// Cuts a line at its last `$`, where digits and a letter, and nothing else, stand behind it.
-fn cut_at_escape(text: &[u8]) -> Option<Escaped<'_>> {
-    let (before, behind) = cut_at_last(text, b'$')?;
-    match behind {
-        [digits @ .., letter] if letter.is_ascii_alphabetic() && are_digits(digits) => {
-            Some(Escaped {
-                text,
-                before,
-                digits,
-                letter: letter.to_ascii_uppercase(),
-            })
-        }
-        _ => None,
-    }
-}
-
-/// Reads `$B`, `a$B`, `a$nB` and `0$nB`.
-fn read_breakpoint<'a>(line: Escaped<'_>, scope: &Scope<'_>) -> Result<Command<'a>, LineError> {
-    let number = match decimal(line.digits) {
-        Some(number) if 1 <= number && number <= u64::from(BREAKPOINTS) => Some(number as u8),
-        None if line.digits.is_empty() => None,
-        _ => return Err(LineError::NoBreakpoint),
-    };
-    if line.before.is_empty() {
-        return match number {
-            None => Ok(Command::ListStops),
-            Some(_) => Err(LineError::NoAddress),
-        };
-    }
-    let address = read_address(line.before, scope)?;
-    match number {
-        Some(number) if address == 0 => Ok(Command::ClearBreakpoint(number)),
-        _ => Ok(Command::SetBreakpoint(address, number)),
-    }
-}
 
 /// Reads `n$P`, `n$X` and `$$X`; n is 1 where it is left out.
 fn read_run<'a>(line: Escaped<'_>) -> Result<Command<'a>, LineError> {
@@ -80,21 +17,12 @@ fn read_run<'a>(line: Escaped<'_>) -> Result<Command<'a>, LineError> {
     }
     let times = match line.before {
         [] => Some(1),
-        [digits @ .., b'.'] => decimal(digits),
-        digits => match octal(digits) {
-            Some(word) => Some(word.number()),
-            None => None,
-        },
+        digits => times(digits),
     };
     match times {
-        Some(times) if 1 <= times && times <= MOST_TIMES => {
-            if line.letter == b'P' {
-                Ok(Command::Proceed(times as u32))
-            } else {
-                Ok(Command::Execute(times as u32))
-            }
-        }
-        _ => Err(LineError::NoTimes),
+        Some(times) if line.letter == b'P' => Ok(Command::Proceed(times)),
+        Some(times) => Ok(Command::Execute(times)),
+        None => Err(LineError::NoTimes),
     }
 }
 
@@ -125,14 +53,14 @@ fn read_deposit<'a>(text: &[u8], scope: &Scope<'_>) -> Result<Command<'a>, LineE
 fn read_escaped<'a>(line: Escaped<'_>, scope: &Scope<'_>) -> Result<Command<'a>, LineError> {
     let is_alone = line.before.is_empty() && line.digits.is_empty();
     match line.letter {
-        b'B' => read_breakpoint(line, scope),
+        b'B' => read_breakpoint(line, b"".as_slice(), scope),
         b'G' if is_alone => Ok(Command::Go),
         b'G' if line.digits.is_empty() => Ok(Command::GoAt(read_address(line.before, scope)?)),
         b'G' => Err(LineError::NoEscape),
         b'P' | b'X' => read_run(line),
         b'W' | b'N' | b'E' => read_search(line, scope),
         b'R' if line.before.is_empty() => match decimal(line.digits) {
-            Some(radix) if 2 <= radix && radix <= 16 => {
+            Some(radix) if LEAST_RADIX <= radix && radix <= MOST_RADIX => {
                 Ok(Command::SetMode(OutputMode::Radix(radix as u8)))
             }
             _ => Err(LineError::NoRadix),
@@ -145,8 +73,11 @@ fn read_escaped<'a>(line: Escaped<'_>, scope: &Scope<'_>) -> Result<Command<'a>,
     }
 }
 
-/// Reads `a/`, `value=`, a command of `$`, or a value to deposit.
+/// Reads a breakpoint with limits, `a/`, `value=`, a command of `$`, or a value to deposit.
 fn read_value_line<'a>(text: &[u8], scope: &Scope<'_>) -> Result<Command<'a>, LineError> {
+    if let Some((line, limits)) = cut_limits(text) {
+        return read_breakpoint(line, limits, scope);
+    }
     match text {
         [front @ .., b'/'] => Ok(Command::Open(read_address(front, scope)?)),
         [front @ .., b'='] => Ok(Command::Evaluate(read_value(front, scope)?)),

@@ -4,7 +4,16 @@ ghost use Rattle.std.specs.Prelude.{◌<◌, ◌^◌, IfSome};
 use word36::Word;
 
 /// One more than the largest decimal number that is read.
-const DECIMALS: u64 = 1 << 40;
+pub const DECIMALS: u64 = 1 << 40;
+
+/// The largest number before `$P` and `$X`, and behind TIMES: 10000 octal.
+pub const MOST_TIMES: u64 = 0o10000;
+
+/// The least radix of `$nR`.
+pub const LEAST_RADIX: u64 = 2;
+
+/// The largest radix of `$nR`.
+pub const MOST_RADIX: u64 = 16;
 
 /// The word of some octal digits, of which the last twelve count; `None` where there is no digit, or another character.
 pub fn octal(text: &[u8]) -> Option<Word> {
@@ -47,5 +56,18 @@ pub fn pointed_decimal(text: &[u8]) -> Option<u64>
     match text {
         [digits @ .., b'.'] => decimal(digits),
         digits => decimal(digits),
+    }
+}
+
+/// How many times, from 1 to `MOST_TIMES`: octal digits, or decimal ones with a point behind them.
+pub fn times(text: &[u8]) -> Option<u32> {
+    let times = match text {
+        [digits @ .., b'.'] => decimal(digits)?,
+        digits => octal(digits)?.number(),
+    };
+    if 1 <= times && times <= MOST_TIMES {
+        Some(times as u32)
+    } else {
+        None
     }
 }

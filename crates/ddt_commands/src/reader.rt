@@ -32,6 +32,21 @@ pub fn cut_at_last(text: &[u8], byte: u8) -> Option<(&[u8], &[u8])> {
     parts
 }
 
+/// Whether a byte is a blank.
+pub fn is_blank(byte: u8) -> bool {
+    byte == b' ' || byte == b'\t'
+}
+
+/// Cuts a text at its first blank: its first word, and the rest without the blanks round it.
+pub fn cut_word(text: &[u8]) -> (&[u8], &[u8]) {
+    for (i, byte) in text.iter().enumerate() {
+        if is_blank(*byte) {
+            return (&text[..i], text[i + 1..].trim_ascii());
+        }
+    }
+    (text, &[])
+}
+
 impl<'a> Reader<'a> {
     /// Passes over blanks.
     pub fn skip(&mut self) {

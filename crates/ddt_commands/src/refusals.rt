@@ -1,5 +1,6 @@
 //! Why the debugger does not obey a command that is well-formed.
 
+use ddt_breakpoints::BREAKPOINTS;
 use std::fmt;
 
 /// Why the debugger does not obey a command that is well-formed. It is written as `?` and the reason, without a line end.
@@ -41,13 +42,17 @@ impl fmt::Display for Refusal {
     fn fmt<W: fmt::Write>(&self, f: &mut fmt::Formatter<W>) -> fmt::Result {
         let text = match *self {
             Refusal::FewSteps(steps) => return write!(f, "? only {steps} steps were made"),
+            Refusal::NoBreakpointFree => {
+                return write!(f, "? all {BREAKPOINTS} breakpoints are set");
+            }
+            Refusal::NoWatchFree => {
+                return write!(f, "? {BREAKPOINTS} words are watched already");
+            }
             Refusal::NotOpen => "? no place is open: LOOP/ opens the place LOOP",
             Refusal::NoLock => "? a lock is named as in .BREAK LOCK A, or by its code as #17",
             Refusal::NoWord => "? the job has no word there",
             Refusal::NoJob => "? there is no such job: .JOBS lists them",
-            Refusal::NoBreakpointFree => "? all 8 breakpoints are set",
             Refusal::NotSet => "? that breakpoint is not set",
-            Refusal::NoWatchFree => "? 8 words are watched already",
             Refusal::NotStopped => "? no job can be started: the open one is not stopped",
             Refusal::NeverWritten => "? no step has changed that word",
             Refusal::NeverThere => "? the job did not stand there before any step",

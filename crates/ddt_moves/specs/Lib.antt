@@ -1,1 +1,2 @@
 pub mod RunStops
+pub mod Edits

@@ -1,5 +1,5 @@
 -- The stops of a run of the debugger: those of a command, and those that stand in the tables of the user (this project's profile).
-use Rattle.std.specs.Prelude.{◌++◌, Bool, true, false, List, [], ◌∷◌, map, Option, Some, None}
+use Rattle.std.specs.Prelude.{◌++◌, nat_lt, Bool, true, false, List, [], ◌∷◌, map, Option, Some, None}
 use Rattle.std.specs.List.{flat_map}
 use Rattle.machine.specs.Machine.{S}
 use Rattle.machine.specs.Views.{word_in}
@@ -14,9 +14,14 @@ use Rattle.ddt_moves.specs.declared.stop_lists.WatchedWord.{WatchedWord}
 abbrev pub watched : Stop → WatchedStop
 watched one = record { stop = one; stood = false }
 
--- the stop of a breakpoint, where it is set
+-- the stop of a breakpoint, where each time counts
+abbrev pub stop_if_each : Bool → Breakpoint → List Stop
+stop_if_each true b = []
+stop_if_each false b = At b.job b.address b.condition ∷ []
+
+-- the stop of a breakpoint, where it is set and each time counts: one with a condition holds where that holds
 abbrev pub stop_at : Option Breakpoint → List Stop
-stop_at (Some b) = At b.job b.address ∷ []
+stop_at (Some b) = stop_if_each (nat_lt 1 b.times) b
 stop_at None = []
 
 -- the stop of a watched word: it is no longer what it is now
@@ -28,6 +33,6 @@ abbrev pub stop_of_circles : Bool → List Stop
 stop_of_circles true = Circle ∷ []
 stop_of_circles false = []
 
--- the stops of the user's tables: the breakpoints of all jobs, the watched words as they are now, and circles
+-- the stops of the user's tables: the breakpoints of all jobs that stop each time, the watched words as they are now, and circles
 abbrev pub stops_in : S → StopList → List Stop
 stops_in s list = flat_map stop_at list.breakpoints ++ map (stop_of_word s) list.words.items ++ stop_of_circles list.circles

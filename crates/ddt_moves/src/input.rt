@@ -19,7 +19,7 @@ pub struct InputLines {
 /// A line that was typed.
 #[derive(Clone, Copy)]
 struct Typed {
-    /// How many entries had happened before.
+    /// How many entries had happened behind it.
     happened: usize,
     /// The position of the next line in the text.
     next: usize,
@@ -68,7 +68,7 @@ impl InputLines {
     fn next_start(&self, happened: usize) -> usize {
         let mut start = 0;
         for typed in self.typed.as_slice() {
-            if typed.happened < happened {
+            if typed.happened <= happened {
                 start = typed.next;
             }
         }
@@ -80,11 +80,12 @@ impl InputLines {
         self.next_start(happened) < self.text.len()
     }
 
-    /// Forgets the lines that were typed later than so many entries.
-    fn forget(&mut self, happened: usize) {
+    /// Forgets the lines that were not typed where so many entries have happened. What was ahead there is forgotten as soon as
+    /// something else happens, and these lines with it.
+    pub fn forget(&mut self, happened: usize) {
         let mut kept = 0usize;
         for typed in self.typed.as_slice() {
-            if typed.happened < happened {
+            if typed.happened <= happened {
                 kept = kept.saturating_add(1);
             }
         }
@@ -100,8 +101,11 @@ impl InputLines {
         };
         let target = target_of(lines, line);
         type_line(timeline, target.line, target.text)?;
-        self.forget(happened);
-        self.typed.push(Typed { happened, next })?;
+        let typed = Typed {
+            happened: timeline.happened(),
+            next,
+        };
+        self.typed.push(typed)?;
         Ok(true)
     }
 }

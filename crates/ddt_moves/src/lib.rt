@@ -1,6 +1,7 @@
 //! What the debugger does to the machine: runs up to a stop, starts, and terminals; and what it finds in the steps that were made.
 #![tactic(auto)]
 
+mod edits;
 mod ends;
 mod input;
 mod lock_watch;
@@ -12,7 +13,9 @@ mod starts;
 mod stop_lists;
 mod terminals;
 mod turns;
+mod visits;
 
+pub use edits::is_edited;
 pub use ends::ended_at;
 pub use input::{InputLines, line_from};
 pub use past_steps::{Turns, last_at, last_turns, last_write};
@@ -20,6 +23,6 @@ pub use replays::Replay;
 pub use run_stops::{Cause, RunStops, stops_of};
 pub use runs::{RunEnd, run_to};
 pub use starts::{begin, cause_at_start, go_on, is_stopped, start_jobs};
-pub use stop_lists::{BREAKPOINTS, Breakpoint, StopList, WatchedWord};
+pub use stop_lists::{Breakpoint, StopList, WatchedWord};
 pub use terminals::{take_line, type_line};
 pub use turns::{next_instruction, turn_at};

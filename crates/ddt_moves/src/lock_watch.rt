@@ -1,23 +1,26 @@
-//! A watch for calls on a lock, and for grants.
+//! A watch for calls on a lock, for grants, and for breakpoints that count.
 
 ghost use Rattle.std.specs.Prelude.{true};
 
 use crate::run_stops::Cause;
 use crate::stop_lists::StopList;
 use crate::turns::{NUMBERS, pcs_of};
+use crate::visits::{Counter, counters_of};
 use concrete_machine::Machine;
-use ddt_timeline::Watch;
+use ddt_timeline::{Timeline, Watch};
 use lock_queue::{Name, Request};
 use run_facts::is_new_grant;
 use run_notes::{PendingCall, snapshot_of};
 use std::alloc::{AllocError, Global};
-use word36::{Address, JOBS};
+use word36::{Address, JOBS, Word};
 
-/// A watch that ends a run at a grant, or before a call on a lock.
+/// A watch that ends a run at a breakpoint that counts, at a grant, or before a call on a lock.
 #[derive(Drop)]
 pub struct LockWatch<'a> {
     alloc: Global,
     list: &'a StopList,
+    /// The breakpoints that count.
+    counters: Vec<Counter>,
     /// The requests before the round, where runs stop at grants.
     pub requests: Vec<Request>,
     /// The PC of each job before the round, where runs stop before calls.
@@ -100,15 +103,30 @@ fn has_new_grant(before: &[Request], requests: &[Request]) -> bool {
 
 impl<'a> LockWatch<'a> {
     /// A watch of a run that begins now.
-    pub fn new(alloc: Global, machine: &Machine, list: &'a StopList) -> Result<Self, AllocError> {
+    pub fn new(timeline: &Timeline, list: &'a StopList) -> Result<Self, AllocError> {
+        let (alloc, machine) = (timeline.alloc(), timeline.machine());
         Ok(LockWatch {
             alloc,
             list,
+            counters: counters_of(timeline, list)?,
             requests: machine.requests(alloc)?,
             pcs: pcs_of(machine),
             cause: None,
             has_failed: false,
         })
+    }
+
+    /// The first breakpoint that counts to which its job came in a round, for one of the times that stop a run.
+    fn first_counted(&mut self, machine: &Machine, ran: Option<u8>) -> Option<Cause> {
+        // A cause may hold a word: the prover wants its type to be named.
+        let _word: Option<Word> = None;
+        let mut cause = None;
+        for counter in self.counters.as_mut_slice().iter_mut() {
+            if counter.see_round(machine, ran) && cause.is_none() {
+                cause = Some(counter.cause());
+            }
+        }
+        cause
     }
 
     /// Whether a request was granted in a round; where none was, the requests of now are kept.
@@ -126,6 +144,10 @@ impl<'a> LockWatch<'a> {
 
     /// Why the run ends behind a round in which a job ran, if it does.
     fn look(&mut self, machine: &Machine, ran: Option<u8>) -> Result<Option<Cause>, AllocError> {
+        let counted = self.first_counted(machine, ran);
+        if counted.is_some() {
+            return Ok(counted);
+        }
         if self.sees_grant(machine)? {
             return Ok(Some(Cause::Grant));
         }

@@ -1,7 +1,7 @@
 //! The stops of a run, and why it stopped.
 ghost use Rattle.std.specs.Prelude.{◌≡◌, ◌++◌, [], ◌∷◌, IfOk, OnOk, map};
 ghost use Rattle.std.specs.List.{flat_map};
-ghost use Rattle.ddt_moves.specs.RunStops.{stop_at, stop_of_circles, stop_of_word, stops_in, watched};
+ghost use Rattle.ddt_moves.specs.RunStops.{stop_at, stop_if_each, stop_of_circles, stop_of_word, stops_in, watched};
 
 use crate::stop_lists::{Breakpoint, StopList, WatchedWord};
 use concrete_machine::Machine;
@@ -46,7 +46,7 @@ impl RunStops {
     {
         // A stop may hold a word, or none: the prover wants that type to be named.
         let _word: Option<Word> = None;
-        if let Stop::At(_, address) = stop {
+        if let Stop::At(_, address, _) = stop {
             self.addresses.push(address)?;
         }
         self.numbers.push(number)?;
@@ -64,26 +64,42 @@ impl RunStops {
         Ok(())
     }
 
-    /// Adds the stop of a breakpoint of a number, where it is set.
-    fn add_breakpoint(
+    /// Adds the stop of a breakpoint of a number, where each time counts.
+    fn add_each(
         &mut self,
-        breakpoint: Option<Breakpoint>,
+        counts: bool,
+        breakpoint: &Breakpoint,
         number: usize,
     ) -> Result<(), AllocError>
-        ensures { OnOk result (self.new.stops.items ≡ self.old.stops.items ++ map watched (stop_at breakpoint)) }
+        ensures { OnOk result (self.new.stops.items ≡ self.old.stops.items ++ map watched (stop_if_each counts breakpoint.now)) }
+    {
+        if counts {
+            Ok(())
+        } else {
+            self.add(breakpoint.stop(), number)
+        }
+    }
+
+    /// Adds the stop of a breakpoint of a number, where it is set and each time counts.
+    fn add_breakpoint(
+        &mut self,
+        breakpoint: &Option<Breakpoint>,
+        number: usize,
+    ) -> Result<(), AllocError>
+        ensures { OnOk result (self.new.stops.items ≡ self.old.stops.items ++ map watched (stop_at breakpoint.now)) }
     {
         match breakpoint {
-            Some(one) => self.add(Stop::At(one.job, one.address), number),
+            Some(one) => self.add_each(one.counts(), one, number),
             None => Ok(()),
         }
     }
 
-    /// Adds the stops of the breakpoints that are set.
+    /// Adds the stops of the breakpoints that are set and for which each time counts.
     fn add_breakpoints(&mut self, breakpoints: &[Option<Breakpoint>]) -> Result<(), AllocError>
         ensures { OnOk result (self.new.stops.items ≡ self.old.stops.items ++ map watched (flat_map stop_at breakpoints.now)) }
     {
         for i in 0..breakpoints.len() {
-            self.add_breakpoint(breakpoints[i], i.saturating_add(1))?;
+            self.add_breakpoint(&breakpoints[i], i.saturating_add(1))?;
         }
         Ok(())
     }
@@ -116,7 +132,7 @@ impl RunStops {
         let watched = self.stops.as_slice().get(position)?;
         let number = self.numbers.as_slice().get(position).copied().unwrap_or(0);
         match watched.stop {
-            Stop::At(job, address) if number > 0 => {
+            Stop::At(job, address, _) if number > 0 => {
                 Some(Cause::Breakpoint(number, job, address.number()))
             }
             Stop::Word(job, address, was) => Some(Cause::Word(job, address, was)),

@@ -62,7 +62,7 @@ pub fn run_to(
     ensures none_over { IfOk result (λ end. (k : ℕ) → k + 1 < end.made
         → met_after stops.old.stops.items (after (rounds k true) (machine_of (history timeline.old))) ≡ None) }
 {
-    if list.grants || list.lock.is_some() {
+    if list.grants || list.lock.is_some() || list.counts() {
         return run_watched(timeline, stops, list, most, grants);
     }
     let ran = timeline.run(
@@ -74,7 +74,7 @@ pub fn run_to(
     Ok(RunEnd::of(stops, ran, most))
 }
 
-/// Makes steps as `run_to` does, and stops at grants and before calls on a lock.
+/// Makes steps as `run_to` does, and stops at breakpoints that count, at grants and before calls on a lock.
 fn run_watched(
     timeline: &mut Timeline,
     stops: &mut RunStops,
@@ -87,7 +87,7 @@ fn run_watched(
     ensures none_over { IfOk result (λ end. (k : ℕ) → k + 1 < end.made
         → met_after stops.old.stops.items (after (rounds k true) (machine_of (history timeline.old))) ≡ None) }
 {
-    let mut watch = LockWatch::new(timeline.alloc(), timeline.machine(), list)?;
+    let mut watch = LockWatch::new(timeline, list)?;
     let ran = timeline.run(
         stops.stops.as_mut_slice(),
         stops.addresses.as_slice(),

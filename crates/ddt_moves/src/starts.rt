@@ -2,9 +2,10 @@
 
 use crate::lock_watch::first_standing;
 use crate::run_stops::Cause;
-use crate::stop_lists::StopList;
+use crate::stop_lists::{Breakpoint, StopList};
+use crate::visits::counters_of;
 use concrete_machine::Machine;
-use ddt_timeline::{Entry, Timeline, stands_at};
+use ddt_timeline::{Entry, Timeline, WatchedStop};
 use job_sched::Stop;
 use std::alloc::AllocError;
 
@@ -69,6 +70,15 @@ pub fn begin(timeline: &mut Timeline, number: u8) -> Result<(), AllocError> {
     }
 }
 
+/// Whether a job stands at its breakpoint, as its condition wants.
+fn stands(machine: &Machine, breakpoint: &Breakpoint) -> bool {
+    let stop = WatchedStop {
+        stop: breakpoint.stop(),
+        stood: false,
+    };
+    stop.is_met(machine, None)
+}
+
 /// Why a run makes no step where the jobs from `first` to `last` were started or continued just now: one of them stands at a
 /// breakpoint, or before a call on the lock of `.BREAK LOCK`.
 pub fn cause_at_start(
@@ -80,12 +90,17 @@ pub fn cause_at_start(
     let machine = timeline.machine();
     for (i, breakpoint) in list.breakpoints.iter().enumerate() {
         if let Some(breakpoint) = breakpoint {
-            let (job, address) = (breakpoint.job, breakpoint.address);
-            let is_begun = first <= job && job <= last;
-            if is_begun && stands_at(machine, job, address) {
-                let number = i.saturating_add(1);
+            let job = breakpoint.job;
+            let is_begun = first <= job && job <= last && !breakpoint.counts();
+            if is_begun && stands(machine, breakpoint) {
+                let (number, address) = (i.saturating_add(1), breakpoint.address);
                 return Ok(Some(Cause::Breakpoint(number, job, address.number())));
             }
+        }
+    }
+    for counter in counters_of(timeline, list)?.as_slice() {
+        if counter.ends_start(first, last) {
+            return Ok(Some(counter.cause()));
         }
     }
     first_standing(timeline.alloc(), machine, first, last, list)

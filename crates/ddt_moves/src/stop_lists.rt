@@ -1,11 +1,12 @@
 //! The stops that the user sets.
 
-use arrayvec::ArrayVec;
-use lock_queue::Name;
-use word36::Address;
+ghost use Rattle.std.specs.Prelude.{◌≡◌, nat_lt};
 
-/// How many breakpoints there are, and how many words can be watched.
-pub const BREAKPOINTS: usize = 8;
+use arrayvec::ArrayVec;
+use ddt_breakpoints::{BREAKPOINTS, Condition};
+use ddt_timeline::Stop;
+use lock_queue::Name;
+use word36::{Address, Word};
 
 /// An address where runs stop when a job comes to it.
 #[derive(Clone, Copy)]
@@ -14,6 +15,28 @@ pub struct Breakpoint {
     pub job: u8,
     /// The address.
     pub address: Address,
+    /// What has to hold of the job's words there, if anything.
+    pub condition: Option<Condition>,
+    /// From which time on it stops the job that comes there: 1 for each time.
+    pub times: u32,
+}
+
+impl Breakpoint {
+    /// Whether it counts how often its job comes to it.
+    pub fn counts(&self) -> bool
+        ensures { result ≡ nat_lt 1 self.now.times }
+    {
+        1 < self.times
+    }
+
+    /// Where it stops a run, if each time counts.
+    pub fn stop(&self) -> Stop
+        ensures { result ≡ Stop.At self.now.job self.now.address self.now.condition }
+    {
+        // A stop may hold a word, of which this has none: the prover wants its type to be named.
+        let _word: Option<Word> = None;
+        Stop::At(self.job, self.address, self.condition)
+    }
 }
 
 /// A word that is watched: runs stop where it changes.
@@ -65,16 +88,28 @@ impl StopList {
         free
     }
 
-    /// Sets a breakpoint of a job: the one of a number from 1 to 8, or a free one. Gives its number; `None`, and nothing changes,
-    /// where all are set.
-    pub fn set(&mut self, job: u8, address: Address, number: Option<u8>) -> Option<usize> {
+    /// Sets a breakpoint: the one of a number from 1 to 8, or else the one at the same address of its job, or a free one. Gives
+    /// its number; `None`, and nothing changes, where all are set.
+    pub fn set(&mut self, breakpoint: &Breakpoint, number: Option<u8>) -> Option<usize> {
         let at = match number {
             Some(number) => usize::from(number).saturating_sub(1),
-            None => self.free(job, address)?,
+            None => self.free(breakpoint.job, breakpoint.address)?,
         };
         let slot = self.breakpoints.get_mut(at)?;
-        *slot = Some(Breakpoint { job, address });
+        *slot = Some(*breakpoint);
         Some(at.saturating_add(1))
+    }
+
+    /// Whether one of the breakpoints counts how often its job comes to it.
+    pub fn counts(&self) -> bool {
+        for slot in &self.breakpoints {
+            if let Some(breakpoint) = slot {
+                if breakpoint.counts() {
+                    return true;
+                }
+            }
+        }
+        false
     }
 
     /// Clears the breakpoint of a number; false where it was not set.

@@ -1,13 +1,11 @@
 //! What is typed at the terminals, and what jobs type out.
 
 use ddt_timeline::{Entry, Timeline};
+use machine::MOST_TAKES;
 use monitor::{Answer, RefusedEvent};
 use std::alloc::AllocError;
 use tty_lines::Char7;
-use word36::{OUTPUT_RING, TAKEN_AT_ONCE};
-
-/// How many times a line's output is taken, at most, until it is empty.
-const MOST_TAKES: usize = OUTPUT_RING / TAKEN_AT_ONCE + 1;
+use word36::TAKEN_AT_ONCE;
 
 /// Types a byte at a line; one above 177 octal is passed over. False where the line has no room.
 fn type_byte(timeline: &mut Timeline, line: u8, byte: u8) -> Result<bool, AllocError> {

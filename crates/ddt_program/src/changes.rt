@@ -21,9 +21,7 @@ pub fn deposit(session: &mut Session, timeline: &mut Timeline, word: Word) {
     {
         return session.answer.refuse(Refusal::NoWord);
     }
-    if !session.is_edited(timeline) {
-        session.edited = Some(timeline.happened());
-    }
+    session.input.forget(timeline.happened());
     let entry = Entry::Deposit(session.open, session.here, word);
     make(&mut session.answer, timeline, entry);
     session.is_open = false;

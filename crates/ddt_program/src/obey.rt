@@ -96,8 +96,38 @@ fn file_to_obey<'a>(session: &mut Session, file: &'a [u8]) -> Option<&'a str> {
     None
 }
 
-/// Obeys a command on the machine, as one to go on or back; any other goes to `obey_look`.
+/// Obeys a command that goes back, or forward again; any other goes to `obey_move`.
 fn obey(session: &mut Session, timeline: &mut Timeline, command: &Command<'_>) {
+    match *command {
+        Command::Back(steps) => back(session, timeline, steps),
+        Command::BackTo(address) => back_to(session, timeline, address),
+        Command::BackWrite(address) => back_to_write(session, timeline, address),
+        Command::Forward => forward(session, timeline),
+        _ => obey_move(session, timeline, command),
+    }
+}
+
+/// Whether a command makes something happen to the machine; `deposit` and `go` find that out themselves.
+fn makes_happen(command: &Command<'_>) -> bool {
+    match *command {
+        Command::GoAt(_)
+        | Command::Proceed(_)
+        | Command::Execute(_)
+        | Command::ExecuteCall
+        | Command::Step(_)
+        | Command::Tick(_)
+        | Command::Type(_, _)
+        | Command::Take => true,
+        _ => false,
+    }
+}
+
+/// Obeys a command that makes something happen to the machine; any other goes to `obey_look`. Lines of the input that are typed
+/// ahead of where the machine stands are forgotten with all that is ahead.
+fn obey_move(session: &mut Session, timeline: &mut Timeline, command: &Command<'_>) {
+    if makes_happen(command) {
+        session.input.forget(timeline.happened());
+    }
     match *command {
         Command::Deposit(word) => deposit(session, timeline, word),
         Command::Go => go(session, timeline),
@@ -109,10 +139,6 @@ fn obey(session: &mut Session, timeline: &mut Timeline, command: &Command<'_>) {
         Command::Tick(count) => make(&mut session.answer, timeline, Entry::Ticks(count)),
         Command::Type(line, text) => type_at(&mut session.answer, timeline, line, text),
         Command::Take => take(session, timeline),
-        Command::Back(steps) => back(session, timeline, steps),
-        Command::BackTo(address) => back_to(session, timeline, address),
-        Command::BackWrite(address) => back_to_write(session, timeline, address),
-        Command::Forward => forward(session, timeline),
         _ => obey_look(session, timeline, command),
     }
 }
@@ -129,7 +155,7 @@ fn obey_look(session: &mut Session, timeline: &Timeline, command: &Command<'_>) 
         Command::Retype(retype) => show_last(session, retype.mode()),
         Command::Examine(first, last) => examine(session, timeline, first, last),
         Command::Search(wanted) => search(session, timeline, &wanted),
-        Command::SetBreakpoint(address, number) => set(session, address, number),
+        Command::SetBreakpoint(wanted) => set(session, timeline, &wanted),
         Command::ClearBreakpoint(number) => unset(session, number),
         Command::ListStops => show_stops(session),
         Command::Watch(address) => watch(session, timeline, address),

@@ -2,7 +2,7 @@
 
 use crate::session::Session;
 use crate::tables::show_waits;
-use ddt_moves::{Cause, RunEnd, turn_at};
+use ddt_moves::{Cause, RunEnd, is_edited, turn_at};
 use ddt_show::change_text;
 use ddt_timeline::Timeline;
 use word36::Word;
@@ -102,7 +102,7 @@ fn report_cause(session: &mut Session, timeline: &Timeline, end: RunEnd, most: u
 pub fn report_end(session: &mut Session, timeline: &Timeline, end: RunEnd, most: u32) {
     session.is_open = false;
     report_cause(session, timeline, end, most);
-    if session.is_edited(timeline) {
+    if is_edited(timeline) {
         session.answer.say("edited: words were deposited\n");
     }
 }

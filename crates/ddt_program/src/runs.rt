@@ -84,8 +84,12 @@ fn goes_on(
 /// `$G`: starts jobs, and runs.
 pub fn go(session: &mut Session, timeline: &mut Timeline) {
     let lines = session.lines();
+    let happened = timeline.happened();
     match start_jobs(timeline, lines, session.open) {
-        Ok(true) => run_from_start(session, timeline),
+        Ok(true) => {
+            session.input.forget(happened);
+            run_from_start(session, timeline);
+        }
         Ok(false) => session.answer.refuse(Refusal::NotStopped),
         Err(_) => session.answer.fail(),
     }
@@ -162,8 +166,8 @@ pub fn execute_call(session: &mut Session, timeline: &mut Timeline) {
     match timeline.machine().job(number) {
         Some(view) => {
             let own = [
-                Stop::At(number, view.pc.plus(1)),
-                Stop::At(number, view.pc.plus(2)),
+                Stop::At(number, view.pc.plus(1), None),
+                Stop::At(number, view.pc.plus(2), None),
                 Stop::End(number),
             ];
             let end = run(session, timeline, &own, MOST_STEPS);

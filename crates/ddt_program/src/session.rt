@@ -56,8 +56,6 @@ pub struct Session {
     pub grants: String,
     /// The lines that are typed where a job waits for characters.
     pub input: InputLines,
-    /// How many entries had happened when the first word was deposited.
-    pub edited: Option<usize>,
     /// The answer that is not written yet.
     pub answer: AnswerText,
     /// The lines that were obeyed, with their ends.
@@ -80,7 +78,6 @@ impl Session {
             list: StopList::new(),
             grants: String::new(alloc),
             input: InputLines::none(alloc),
-            edited: None,
             answer: AnswerText::new(alloc),
             kept: Vec::new(alloc),
             file_lines: FileLines::none(alloc),
@@ -172,14 +169,6 @@ impl Session {
     pub fn show_jobs(&mut self, timeline: &Timeline) {
         for number in 1..self.lines().saturating_add(1) {
             self.show_job(timeline, number);
-        }
-    }
-
-    /// Whether words have been deposited, as the machine stands now.
-    pub fn is_edited(&self, timeline: &Timeline) -> bool {
-        match self.edited {
-            Some(happened) => happened < timeline.happened(),
-            None => false,
         }
     }
 }

@@ -1,22 +1,42 @@
 //! Commands that set breakpoints and the other stops.
 
 use crate::session::Session;
-use ddt_commands::Refusal;
-use ddt_moves::{BREAKPOINTS, Breakpoint, WatchedWord};
+use ddt_breakpoints::{BREAKPOINTS, Condition};
+use ddt_commands::{NewBreakpoint, Refusal};
+use ddt_moves::{Breakpoint, WatchedWord};
 use ddt_timeline::Timeline;
 use lock_queue::Name;
 use queue_script::CallRoom;
 use script_io::Parts;
 use word36::Address;
 
+/// Whether a condition, if there is one, is on a word that the open job has.
+fn has_word(session: &Session, timeline: &Timeline, condition: Option<Condition>) -> bool {
+    match condition {
+        Some(condition) => {
+            let word = timeline.machine().peek(session.open, condition.address);
+            word.is_some()
+        }
+        None => true,
+    }
+}
+
 /// `a$B` and `a$nB`: sets a breakpoint of the open job.
-pub fn set(session: &mut Session, address: u32, number: Option<u8>) {
-    let Some(address) = Address::try_new(address) else {
+pub fn set(session: &mut Session, timeline: &Timeline, wanted: &NewBreakpoint) {
+    let Some(address) = Address::try_new(wanted.address) else {
         return session.answer.refuse(Refusal::NoWord);
     };
-    let job = session.open;
-    match session.list.set(job, address, number) {
-        Some(number) => show_breakpoint(session, number, Breakpoint { job, address }),
+    if !has_word(session, timeline, wanted.condition) {
+        return session.answer.refuse(Refusal::NoWord);
+    }
+    let breakpoint = Breakpoint {
+        job: session.open,
+        address,
+        condition: wanted.condition,
+        times: wanted.times,
+    };
+    match session.list.set(&breakpoint, wanted.number) {
+        Some(number) => show_breakpoint(session, number, &breakpoint),
         None => session.answer.refuse(Refusal::NoBreakpointFree),
     }
 }
@@ -28,17 +48,40 @@ pub fn unset(session: &mut Session, number: u8) {
     }
 }
 
-/// Adds the address of a stop, and ends the line: ` job 1 LOOP+3`.
+/// Adds the address of a stop: ` job 1 LOOP+3`.
 fn say_stop(session: &mut Session, job: u8, address: u32) {
     session.answer.say_number(" job ", u64::from(job), " ");
     session.say_address(job, address);
-    session.answer.end_line();
 }
 
-/// Shows a breakpoint: `$1B job 1 LOOP+3`.
-fn show_breakpoint(session: &mut Session, number: usize, breakpoint: Breakpoint) {
+/// Adds a condition of a job's breakpoint: ` IF COUNT>5`, with the value as a signed number in octal.
+fn say_condition(session: &mut Session, job: u8, condition: Condition) {
+    session.answer.say(" IF ");
+    session.say_address(job, condition.address);
+    session.answer.say(condition.comparison.sign());
+    let value = condition.value.signed();
+    let sign = if value < 0 { "-" } else { "" };
+    let digits = value.unsigned_abs();
+    let alloc = session.alloc;
+    session
+        .answer
+        .say_made(format!(in alloc; "{sign}{digits:o}"));
+}
+
+/// Shows a breakpoint, as it is typed: `$1B job 1 LOOP+3 IF COUNT>5 TIMES 3`.
+fn show_breakpoint(session: &mut Session, number: usize, breakpoint: &Breakpoint) {
     session.answer.say_number("$", number as u64, "B");
     say_stop(session, breakpoint.job, breakpoint.address.number());
+    if let Some(condition) = breakpoint.condition {
+        say_condition(session, breakpoint.job, condition);
+    }
+    if breakpoint.counts() {
+        let (alloc, times) = (session.alloc, breakpoint.times);
+        session
+            .answer
+            .say_made(format!(in alloc; " TIMES {times:o}"));
+    }
+    session.answer.end_line();
 }
 
 /// Shows a word that is watched, or no longer: `watched job 1 COUNT`.
@@ -49,13 +92,14 @@ fn show_watched(session: &mut Session, word: WatchedWord, is_watched: bool) {
         "no longer watched"
     });
     say_stop(session, word.job, word.address);
+    session.answer.end_line();
 }
 
 /// `$B`: shows the breakpoints, and what else runs stop at.
 pub fn show_stops(session: &mut Session) {
     for slot in 0..BREAKPOINTS {
         if let Some(breakpoint) = session.list.breakpoints.get(slot).copied().flatten() {
-            show_breakpoint(session, slot.saturating_add(1), breakpoint);
+            show_breakpoint(session, slot.saturating_add(1), &breakpoint);
         }
     }
     for position in 0..session.list.words.len() {

@@ -2,6 +2,7 @@
 
 use crate::session::Session;
 use ddt_commands::Refusal;
+use ddt_moves::is_edited;
 use ddt_show::{AnswerText, lock_lines, register_lines, wait_lines};
 use ddt_timeline::Timeline;
 use std::alloc::AllocError;
@@ -22,7 +23,7 @@ pub fn show_jobs(session: &mut Session, timeline: &Timeline) {
     let (steps, ticks) = (timeline.steps(), timeline.ticks());
     session.answer.say_number("steps ", steps, ", ");
     session.answer.say_number("ticks ", ticks, "");
-    if session.is_edited(timeline) {
+    if is_edited(timeline) {
         session.answer.say(", edited: words were deposited");
     }
     session.answer.end_line();

@@ -3,7 +3,7 @@
 use crate::answer_text::AnswerText;
 
 /// A line on each command, which stands in the first 16 characters.
-static COMMANDS: [&str; 39] = [
+static COMMANDS: [&str; 41] = [
     "a/               opens a place and shows its word",
     "(empty)          the next place; ^ the one before; TAB the one that the last word addresses",
     "value            puts the value in the place that is open",
@@ -11,6 +11,8 @@ static COMMANDS: [&str; 39] = [
     "= _ ;            the last quantity in octal, as an instruction, as text",
     "expr=            a value: octal, 12. decimal, labels, . and $Q, + and -, 1,,LABEL, MOVE 1,LABEL",
     "a$B              sets a breakpoint of the open job at a; a$nB that of number n, 1 to 8",
+    "a$B IF b=v       .. that stops only where the word at b is v; <> < > <= >= compare signed numbers",
+    "a$B TIMES n      .. that stops from the n-th time on (octal); a$B IF b=v TIMES n: only those times count",
     "0$nB             takes breakpoint n away",
     "$B               the breakpoints, and what else runs stop at",
     "$G               starts the jobs that were not started, or the open one again, and runs",
@@ -30,7 +32,7 @@ static COMMANDS: [&str; 39] = [
     ".BREAK LOCK A    runs stop before calls on the lock A (#17 by its code), or no longer",
     ".BREAK GRANT     runs stop where a request that waited is granted, or no longer",
     ".BREAK CIRCLE    runs stop where jobs wait for each other in a circle, or no longer",
-    ".BREAK a         as a$B",
+    ".BREAK a         as a$B, also with IF and TIMES",
     ".STEP n          n steps of the machine; n is decimal",
     ".TICK n          n ticks go by; n is decimal, 1 to 6000",
     ".TYPE l text     types a text and a line end at terminal line l",

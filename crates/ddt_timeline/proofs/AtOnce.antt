@@ -11,7 +11,7 @@ use Rattle.machine.specs.Machine.{S, after}
 use Rattle.machine.specs.Rounds.{rounds}
 use Rattle.machine.specs.Views.{job_view, view_of}
 use Rattle.machine.specs.declared.view.JobView.{JobView}
-use Rattle.ddt_timeline.specs.Stops.{has_pc, is_at, is_at_one_of, is_job, is_met, is_met_at, is_within, noted, met_after, round, stands_at}
+use Rattle.ddt_timeline.specs.Stops.{fits, has_pc, is_at, is_at_one_of, is_job, is_met, is_met_at, is_within, noted, met_after, round, stands_at}
 use Rattle.ddt_timeline.specs.declared.stops.WatchedStop.{WatchedStop}
 use Rattle.ddt_timeline.specs.declared.stops.Stop.{Stop}
 use Rattle.ddt_timeline.specs.declared.stops.Stop.TheVariants.{At, Turn, End, Word, Circle, Input}
@@ -69,9 +69,9 @@ come-same false x y z same = ap (λ (c : Bool). x && not c) (same refl)
 -- it does not matter before which of two near states it is noted
 stop-same : (addresses : List ℕ) (job : Option ℕ) (m u t : S) (stop : Stop) → is_at_one_of addresses stop ≡ true → Near m u job
     → is_met (is_at m stop) t job stop ≡ is_met (is_at u stop) t job stop
-stop-same addresses job m u t (At n a) within near =
-    come-same (is_job job n) (stands_at (job_view t.world n) a) (has_pc (job_view m.world n) a) (has_pc (job_view u.world n) a)
-    (λ differs. sym (pc-near m u job n a near (other-job job n differs)))
+stop-same addresses job m u t (At n a c) within near =
+    ap (λ (b : Bool). b && fits t n c) (come-same (is_job job n) (stands_at (job_view t.world n) a) (has_pc (job_view m.world n) a) (has_pc (job_view u.world n) a)
+    (λ differs. sym (pc-near m u job n a near (other-job job n differs))))
 stop-same addresses job m u t (Turn n) within near = absurd (false≢true within)
 stop-same addresses job m u t (End n) within near = absurd (false≢true within)
 stop-same addresses job m u t (Word n a w) within near = absurd (false≢true within)
@@ -92,14 +92,14 @@ come-none false x false gone kept = ap (λ (c : Bool). c && true) (kept refl ref
 stop-none : (addresses : List ℕ) (job : Option ℕ) (u t : S) (stop : Stop) → is_at_one_of addresses stop ≡ true → Near u t job
     → does_end (is_among addresses) (pc_on t job) ≡ false
     → is_met (is_at u stop) t job stop ≡ false
-stop-none addresses job u t (At n a) within near none =
-    come-none (is_job job n) (stands_at (job_view t.world n) a) (has_pc (job_view u.world n) a)
+stop-none addresses job u t (At n a c) within near none =
+    ap (λ (b : Bool). b && fits t n c) (come-none (is_job job n) (stands_at (job_view t.world n) a) (has_pc (job_view u.world n) a)
     (λ same.
     stands-pc (job_view t.world n) a
     (pc-at t n a
     ∙ not-there addresses a (pc_in t n) within
     (ap (λ (o : Option ℕ). does_end (is_among addresses) (pc_on t o)) (sym (same-job job n same)) ∙ none)))
-    (λ differs before. stands-pc (job_view t.world n) a (pc-near u t job n a near (other-job job n differs) ∙ before))
+    (λ differs before. stands-pc (job_view t.world n) a (pc-near u t job n a near (other-job job n differs) ∙ before)))
 stop-none addresses job u t (Turn n) within near none = absurd (false≢true within)
 stop-none addresses job u t (End n) within near none = absurd (false≢true within)
 stop-none addresses job u t (Word n a w) within near none = absurd (false≢true within)

@@ -2,6 +2,8 @@
 use Rattle.std.specs.Prelude.{ℕ, ◌==◌, ◌&&◌, ◌||◌, nat_le, Bool, true, false, not, is_none, is_some}
 use Rattle.std.specs.Prelude.{List, Option, Some, None, map, position}
 use Rattle.word36.specs.declared.sizes.TheConstants.{JOBS}
+use Rattle.ddt_breakpoints.specs.Conditions.{holds_of}
+use Rattle.ddt_breakpoints.specs.declared.conditions.Condition.{Condition}
 use Rattle.lock_queue.specs.Jobs.{waits_for}
 use Rattle.lock_queue.specs.Waits.{is_in_circle}
 use Rattle.job_sched.specs.declared.job.Wait.{Wait}
@@ -87,7 +89,7 @@ does_some_wait_for_input s None = false
 
 -- whether a stop is at an address where the PC of its job is
 abbrev pub is_at : S → Stop → Bool
-is_at s (At job address) = has_pc (job_view s.world job) address
+is_at s (At job address condition) = has_pc (job_view s.world job) address
 is_at s (Turn job) = false
 is_at s (End job) = false
 is_at s (Word job address word) = false
@@ -99,11 +101,16 @@ is_at s Input = false
 abbrev pub has_come : Bool → Option ℕ → ℕ → Bool → Bool
 has_come stood ran job stands = stands && (is_job ran job || not stood)
 
--- whether a stop holds after a round in which a job ran, where stood is for has_come: the job came to the address; or it had
--- its turn; or it had its turn and is stopped or gone; or the word is another; or the job that ran waits in a circle; or it
--- waits for characters
+-- whether a condition, if there is one, holds of the words of a job
+abbrev pub fits : S → ℕ → Option Condition → Bool
+fits s job (Some condition) = holds_of condition (word_in s.world job condition.address)
+fits s job None = true
+
+-- whether a stop holds after a round in which a job ran, where stood is for has_come: the job came to the address, and the
+-- condition holds there; or it had its turn; or it had its turn and is stopped or gone; or the word is another; or the job
+-- that ran waits in a circle; or it waits for characters
 abbrev pub is_met : Bool → S → Option ℕ → Stop → Bool
-is_met stood s ran (At job address) = has_come stood ran job (stands_at (job_view s.world job) address)
+is_met stood s ran (At job address condition) = has_come stood ran job (stands_at (job_view s.world job) address) && fits s job condition
 is_met stood s ran (Turn job) = is_job ran job
 is_met stood s ran (End job) = is_job ran job && has_ended (job_view s.world job)
 is_met stood s ran (Word job address word) = not (is_word (word_in s.world job address) word)
@@ -124,7 +131,7 @@ met_after stops s = position (is_met_at (round s) (next_in s)) (map (noted s) st
 
 -- whether a stop is at an address, and that is one of some
 abbrev pub is_at_one_of : List ℕ → Stop → Bool
-is_at_one_of addresses (At job address) = is_among addresses address
+is_at_one_of addresses (At job address condition) = is_among addresses address
 is_at_one_of addresses (Turn job) = false
 is_at_one_of addresses (End job) = false
 is_at_one_of addresses (Word job address word) = false

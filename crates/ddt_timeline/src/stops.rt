@@ -4,12 +4,14 @@ ghost use Rattle.std.specs.Prelude.{◌≡◌, ◌+◌, ◌-◌, ◌<◌, ◌≤
 ghost use Rattle.machine.specs.Machine.{after};
 ghost use Rattle.machine.specs.Rounds.{rounds};
 ghost use Rattle.machine.specs.Between.{is_among, next_in};
-ghost use Rattle.ddt_timeline.specs.Stops.{ran_of, round, has_ended, has_pc, is_at, is_at_one_of, is_input, is_met, is_met_at, is_within};
+ghost use Rattle.ddt_timeline.specs.Stops.{fits, ran_of, round, has_ended, has_pc, is_at, is_at_one_of, is_input};
+ghost use Rattle.ddt_timeline.specs.Stops.{is_met, is_met_at, is_within};
 ghost use Rattle.ddt_timeline.specs.Stops.{is_word, noted, met_after, stands_at, waits_for_input, waits_in_circle};
 ghost use Rattle.ddt_timeline.specs.Runs.{IsRun, SomeGoesOn, can_run, ends_by_ticks, goes_on, is_no_wait, some_go_on};
 ghost use Rattle.machine.specs.Views.{job_view};
 
 use concrete_machine::Machine;
+use ddt_breakpoints::Condition;
 use job_sched::Wait;
 use monitor::{Answer, Event};
 use wait_graph::is_in_circle;
@@ -19,8 +21,9 @@ use word36::{Address, Image, JOBS, Word};
 #[derive(Clone, Copy)]
 pub enum Stop {
     /// A job came to an address: it stands there and is not stopped, and it had its turn, or its PC was elsewhere before, as
-    /// where a time limit ends and a tick puts the PC to the error return.
-    At(u8, Address),
+    /// where a time limit ends and a tick puts the PC to the error return. Where there is a condition, that holds of the job's
+    /// words there.
+    At(u8, Address, Option<Condition>),
     /// A job had its turn.
     Turn(u8),
     /// A job had its turn, and is stopped by it or gone.
@@ -187,8 +190,26 @@ fn is_at(machine: &Machine, stop: &Stop) -> bool
     ensures { result ≡ is_at machine.now stop.now }
 {
     match *stop {
-        Stop::At(job, address) => has_pc(machine, job, address),
+        Stop::At(job, address, _) => has_pc(machine, job, address),
         _ => false,
+    }
+}
+
+impl WatchedStop {
+    /// Notes whether the PC of its job is at its address now.
+    #[inline(always)]
+    pub fn note(&mut self, machine: &Machine)
+        ensures { self.new ≡ noted machine.now self.old }
+    {
+        self.stood = is_at(machine, &self.stop);
+    }
+
+    /// Whether it holds after a round in which a job ran, where it was noted before the round.
+    #[inline(always)]
+    pub fn is_met(&self, machine: &Machine, ran: Option<u8>) -> bool
+        ensures { result ≡ is_met_at machine.now ran self.now }
+    {
+        is_met(machine, ran, &self.stop, self.stood)
     }
 }
 
@@ -202,6 +223,17 @@ fn note_stood(machine: &Machine, stops: &mut [WatchedStop])
     }
 }
 
+/// Whether a condition, if there is one, holds of the words of a job.
+#[inline(always)]
+fn fits(machine: &Machine, job: u8, condition: Option<Condition>) -> bool
+    ensures { result ≡ fits machine.now job condition }
+{
+    match condition {
+        Some(condition) => condition.holds_of(machine.peek(job, condition.address)),
+        None => true,
+    }
+}
+
 /// Whether a stop holds after a round in which a job ran, where `stood` says whether the PC of its job was at its address
 /// before.
 #[inline(always)]
@@ -209,8 +241,10 @@ fn is_met(machine: &Machine, ran: Option<u8>, stop: &Stop, stood: bool) -> bool
     ensures { result ≡ is_met stood machine.now ran stop.now }
 {
     match *stop {
-        Stop::At(job, address) => {
-            stands_at(machine, job, address) && (ran == Some(job) || !stood)
+        Stop::At(job, address, condition) => {
+            stands_at(machine, job, address)
+                && (ran == Some(job) || !stood)
+                && fits(machine, job, condition)
         }
         Stop::Turn(job) => ran == Some(job),
         Stop::End(job) => ran == Some(job) && has_ended(machine, job),
@@ -324,7 +358,7 @@ fn is_at_one_of(addresses: &[Address], stop: &Stop) -> bool
     ensures { result ≡ is_at_one_of addresses.now stop.now }
 {
     match *stop {
-        Stop::At(_, address) => is_among(addresses, address),
+        Stop::At(_, address, _) => is_among(addresses, address),
         _ => false,
     }
 }
