@@ -16,7 +16,7 @@ use crate::kept::KeptIn;
 use asm_script::serve_asm;
 use machine::Config;
 use op_script::serve;
-use program_shell::{DONE, FAILED, REFUSED, Refusal, USAGE, report_to};
+use program_shell::{DONE, FAILED, REFUSED, Refusal, USAGE, report_to, usage_text};
 use queue_script::serve_queue;
 use script_io::{ByteIn, ByteOut, ServeError};
 use std::alloc::Global;
@@ -110,7 +110,7 @@ fn refuse_arguments<E: ByteOut>(alloc: Global, refusal: Refusal, errors: &mut E)
 {
     match refusal {
         Refusal::Memory => out_of_memory(errors),
-        Refusal::Usage(error) => match error.to_string(alloc) {
+        Refusal::Usage(error) => match usage_text(alloc, &error) {
             Ok(text) => report_to(errors, text.as_str().as_bytes(), USAGE),
             Err(_) => out_of_memory(errors),
         },

@@ -15,7 +15,7 @@ pub struct Desk<'a> {
     pub input: LineReader<TestIn<'a>>,
     /// The output.
     pub output: Answers<TestOut<'a>>,
-    /// What is told.
+    /// What is written to standard error.
     pub errors: Answers<TestOut<'a>>,
     /// The files that there are: their names and texts.
     pub files: &'static [(&'static str, &'static str)],

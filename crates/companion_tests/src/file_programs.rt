@@ -1,7 +1,7 @@
 //! A core image and a source with the same words, and what is refused.
 
-use image_files::Packing;
-use program_files::{packing_named, read_program};
+use image_files::{Packing, packing_named};
+use program_files::read_program;
 use source_labels::{Assembled, MOST_REPORTED, Source};
 
 /// A core dump of 254000,,000140 at 140, with the start 140.
@@ -48,6 +48,6 @@ fn another_packing_is_refused(rt: HostRuntime) {
         return;
     };
     let told =
-        b"one.sav: word 1: a bit is set that this packing leaves 0\n    --from says how its words are packed: core, dense, ascii or simh\n";
+        b"one.sav: word 1: a bit is set that this packing leaves 0\n    it can be read by --from core\n";
     assert!(rt; text.as_slice() == told.as_slice());
 }

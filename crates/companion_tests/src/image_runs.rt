@@ -1,7 +1,7 @@
 //! One image, its source, and its way back.
 
-use image_files::{PackErrorKind, Packing};
-use image_service::{Ending, Form, serve_list, serve_save, serve_source, serve_words};
+use image_files::{ImageFault, PackErrorKind, Packing};
+use image_service::{Ending, serve_list, serve_save, serve_source, serve_words};
 use mac_source::Shown;
 use script_io::{TestIn, TestOut};
 
@@ -71,8 +71,7 @@ fn a_source_has_its_file(rt: HostRuntime) {
     let mut room = [0u8; 256];
     let mut reader = TestIn::new(SOURCE.as_bytes(), 7, MANY);
     let mut writer = TestOut::new(&mut room, 100, MANY);
-    let to = Form::Packed(Packing::CoreDump);
-    let ending = serve_save(rt.alloc(), to, &mut reader, &mut writer);
+    let ending = serve_save(rt.alloc(), Packing::CoreDump, &mut reader, &mut writer);
     assert!(rt; ending == Ok(Ending::Done));
     assert!(rt; writer.as_slice() == &FILE[..]);
 }
@@ -97,11 +96,34 @@ fn a_fault_is_told(rt: HostRuntime) {
     let ending = serve_words(
         rt.alloc(),
         Packing::CoreDump,
-        Form::Octal,
+        Packing::Octal,
         &mut reader,
         &mut writer,
     );
-    let kind = PackErrorKind::CutShort;
-    assert!(rt; ending == Ok(Ending::Word { number: 6, kind }));
+    let fault = ImageFault::Word {
+        number: 6,
+        kind: PackErrorKind::CutShort,
+    };
+    assert!(rt; ending == Ok(Ending::File { fault, other: None }));
     assert!(rt; writer.as_slice() == b"?WORD 6 CUTSHORT\n".as_slice());
+}
+
+/// What `serve_list` tells of a file that is read as another packing than its own.
+#[test]
+fn the_packing_that_fits_is_told(rt: HostRuntime) {
+    let octal = b"254000,,000140\n";
+    let mut room = [0u8; 256];
+    let mut reader = TestIn::new(octal, 7, MANY);
+    let mut writer = TestOut::new(&mut room, 100, MANY);
+    let ending = serve_list(rt.alloc(), Packing::HighDensity, &mut reader, &mut writer);
+    let Ok(Ending::File { fault: _, other }) = ending else {
+        assert!(rt; false);
+        return;
+    };
+    assert!(rt; other == Some(Packing::Octal));
+    let mut reader = TestIn::new(octal, 7, MANY);
+    let mut writer = TestOut::new(&mut room, 100, MANY);
+    let ending = serve_list(rt.alloc(), Packing::Octal, &mut reader, &mut writer);
+    assert!(rt; ending == Ok(Ending::Done));
+    assert!(rt; writer.as_slice() == b"START 000140\n".as_slice());
 }

@@ -19,4 +19,6 @@ mod ports;
 #[cfg(test)]
 mod programs;
 #[cfg(test)]
+mod records;
+#[cfg(test)]
 mod rows;

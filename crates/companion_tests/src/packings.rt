@@ -74,6 +74,8 @@ fn words_are_packed_in_nine_bytes_and_eight(rt: HostRuntime) {
         0x60, 0, 0, 0x60, 5, 0, 0, 0, 0x1A, 0xEB, 0xBB, 0x9C, 2, 0, 0, 0,
     ];
     assert!(rt; agree(rt.alloc(), Packing::Simh, &[jrst, digits], &simh));
+    let octal = b"254000,,000140\n123456,,765432\n";
+    assert!(rt; agree(rt.alloc(), Packing::Octal, &[jrst, digits], octal));
 }
 
 #[test]
@@ -91,6 +93,21 @@ fn faults_of_bytes_are_told(rt: HostRuntime) {
     let simh = [0x60, 0, 0, 0x60, 0x15, 0, 0, 0];
     assert!(rt; is_wrong(rt.alloc(), Packing::Simh, &simh, 1, extra));
     assert!(rt; is_wrong(rt.alloc(), Packing::Simh, &simh[..7], 1, short));
+}
+
+#[test]
+fn faults_of_lines_are_told(rt: HostRuntime) {
+    let (short, wrong) = (PackErrorKind::CutShort, PackErrorKind::NotOctal);
+    for lines in [
+        b"000000,,000000\n800000,,000000\n",
+        b"000000,,000000\n00000/,,000000\n",
+        b"000000,,000000\n000000, 000000\n",
+        b"000000,,000000\n000000,,000000\r",
+    ] {
+        assert!(rt; is_wrong(rt.alloc(), Packing::Octal, lines, 2, wrong));
+    }
+    let whole = b"000000,,000000\n000000,,000000";
+    assert!(rt; is_wrong(rt.alloc(), Packing::Octal, whole, 2, short));
 }
 
 /// Whether the first fault of a file is that of a word.

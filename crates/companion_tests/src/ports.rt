@@ -36,7 +36,7 @@ fn inputs(rt: HostRuntime) {
     }
 }
 
-/// Runs of which a port fails: the input, the output, and where is told.
+/// Runs of which a port fails: the input, the output, and standard error.
 static FAILURES: [Row; 3] = [
     Row {
         words: &["ten", "name.mac"],

@@ -24,11 +24,11 @@ pub struct Row {
     pub calls: Calls,
     /// What is typed out.
     pub output: &'static str,
-    /// What is told.
+    /// What is written to standard error.
     pub told: &'static str,
     /// The exit status.
     pub status: u8,
-    /// Parts that the picture of the run has, in this order; none where no picture is written.
+    /// Parts that the picture or the script of the run has, in this order; none where neither is written.
     pub picture: &'static [&'static str],
 }
 
@@ -39,7 +39,7 @@ pub struct Calls {
     pub reader: u64,
     /// Of the output.
     pub writer: u64,
-    /// Of what is told.
+    /// Of what is written to standard error.
     pub errors: u64,
 }
 

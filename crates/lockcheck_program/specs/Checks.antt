@@ -4,6 +4,7 @@ use Rattle.std.specs.Io.KnownBytes.{Appends}
 use Rattle.std.specs.Str.Lines.{lines}
 use Rattle.lockcheck_orders.specs.Verdicts.{IsFollowed, IsLooked}
 use Rattle.lockcheck_orders.specs.declared.lines.Line.{Line}
+use Rattle.lockcheck_orders.specs.declared.lines.TheConstants.{MOST_LINES}
 use Rattle.lockcheck_orders.specs.declared.verdicts.Looked.{Looked}
 use Rattle.program_shell.specs.Reports.{Hands}
 use Rattle.program_shell.specs.declared.statuses.TheConstants.{FAILED, REFUSED}
@@ -40,7 +41,7 @@ refusal_line number words = codes "lockcheck: line " ++ decimal number ++ codes 
 abbrev pub IsRefusalLine : ScriptError → List ℕ → Type 0
 IsRefusalLine Memory text = false ≡ true
 IsRefusalLine (RefusedLine n) text = (words : List ℕ) × (text ≡ refusal_line n words)
-IsRefusalLine TooLong text = text ≡ codes "lockcheck: the script has more than 10000 lines\n"
+IsRefusalLine TooLong text = text ≡ codes "lockcheck: the script has more than " ++ decimal MOST_LINES ++ codes " lines\n"
 
 -- standard error was told that there was no memory, and the program failed
 abbrev pub WantsMemory : Option (List ℕ) → Option (List ℕ) → Bool → ℕ → Type 0

@@ -1,10 +1,9 @@
 //! The script that the program reads.
-ghost use Rattle.std.specs.Prelude.{◌≡◌, ◌<◌, false, length, is_some, IfErr, IfOk};
-ghost use Rattle.std.specs.Io.KnownBytes.{Consumes, IsAtEnd};
+ghost use Rattle.std.specs.Prelude.{◌≡◌, false, is_some, IfErr, IfOk};
 ghost use Rattle.lockcheck_program.specs.Runs.{IsScript, IsUnread};
 
 use crate::refusals::{report_length, report_memory};
-use program_shell::{FAILED, Failure, report_to};
+use program_shell::{FAILED, Failure, file_error_text, read_whole, report_to};
 use script_io::{ByteIn, ByteOut};
 use std::alloc::Global;
 use std::fs;
@@ -12,29 +11,6 @@ use std::rt::Files;
 
 /// A script of so many bytes is refused as one with too many lines.
 const MOST_BYTES: usize = 1 << 28;
-
-/// How many bytes are read at once, at most.
-const PIECE: usize = 4096;
-
-/// The bytes of an input to its end; of one that has `most` bytes or more, at least so many from its beginning.
-fn read_whole<R: ByteIn>(alloc: Global, reader: &mut R, most: usize) -> Result<Vec<u8>, Failure>
-    requires { R.has_failed reader.old ≡ false }
-    ensures consumed { IfOk result (λ bytes. Consumes (R.to_come reader.old) (R.to_come reader.new) bytes.items) }
-    ensures end { IfOk result (λ bytes. length bytes.items < most → IsAtEnd (R.to_come reader.new)) }
-{
-    let mut bytes = Vec::new(alloc);
-    let mut piece = [0u8; PIECE];
-    while bytes.len() < most {
-        let Ok(count) = reader.read(&mut piece) else {
-            return Err(Failure::Read);
-        };
-        if count == 0 {
-            return Ok(bytes);
-        }
-        bytes.extend_from_slice(&piece[..count])?;
-    }
-    Ok(bytes)
-}
 
 /// The bytes of the script's file; or, where it cannot be read, the exit status for that, which is reported.
 fn read_file<F: Files + AllocGlobal, E: ByteOut>(
@@ -52,7 +28,7 @@ fn read_file<F: Files + AllocGlobal, E: ByteOut>(
         Ok(script) => return Ok(script),
         Err(error) => error,
     };
-    match format!(in alloc; "lockcheck: {file}: {error}\n") {
+    match file_error_text(alloc, "lockcheck: ", file, error) {
         Ok(text) => Err(report_to(errors, text.as_str().as_bytes(), FAILED)),
         Err(_) => Err(report_memory(errors)),
     }

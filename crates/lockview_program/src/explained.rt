@@ -9,6 +9,7 @@ use lock_table::ProgramTable;
 use program_shell::PendingText;
 use queue_script::{CallRoom, Command, QueueService, read_command};
 use script_io::{Ending, LineService};
+use shown_bytes::shown_text;
 use std::alloc::Global;
 use wait_graph::requests_in;
 use word36::MOST_REQUESTS;
@@ -81,7 +82,7 @@ fn explain_line<L: LockTable>(
     say_cause(&mut cause, service.table(), read_command(room, line));
     let mut answers = Vec::new(alloc);
     let ending = service.take_line(number as u128, line, &mut answers)?;
-    text.add(line);
+    text.say_made(shown_text(alloc, line));
     text.end_line();
     say_answers(text, answers.as_slice(), &cause);
     if !cause.is_whole() {

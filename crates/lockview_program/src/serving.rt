@@ -10,8 +10,8 @@ use fault_text::{NO_ENDASM, Refused, explain};
 use lock_bars::{MOST_LINES, ScriptError, ScriptLines, SourceFault, draw_script};
 use lock_svg::{Along, AsSvg};
 use program_shell::{
-    FAILED, Failure, FailureLines, PendingText, REFUSED, USAGE, read_whole, refuse_arguments,
-    report_failure, report_to, write_output,
+    FAILED, Failure, FailureLines, PendingText, REFUSED, USAGE, file_error_text, read_whole,
+    refuse_arguments, report_failure, report_to, write_output,
 };
 use script_io::{ByteIn, ByteOut, LINE_LENGTH};
 use std::alloc::{AllocError, Global};
@@ -162,7 +162,7 @@ fn read_file<F: Files + AllocGlobal, E: ByteOut>(
         Ok(script) => return Ok(script),
         Err(error) => error,
     };
-    match format!(in alloc; "lockview: {file}: {error}\n") {
+    match file_error_text(alloc, "lockview: ", file, error) {
         Ok(text) => Err(report_to(errors, text.as_str().as_bytes(), FAILED)),
         Err(_) => Err(report_failure(errors, &FAILURE_LINES, Failure::Memory)),
     }

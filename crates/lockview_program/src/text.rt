@@ -3,6 +3,7 @@
 use crate::axis::{say_axis, say_spaces};
 use lock_bars::{Arrow, Bar, Drawing, Lane, LockLabel, ScriptLines};
 use program_shell::PendingText;
+use shown_bytes::shown_text;
 
 /// The width of `job 63` and of the blanks behind it.
 const JOB_WIDTH: usize = 8;
@@ -91,7 +92,7 @@ fn say_waits(text: &mut PendingText, drawing: &Drawing) {
     }
 }
 
-/// Adds the lines of the script that have columns, each with its number.
+/// Adds the lines of the script that have columns, each with its number, as a terminal shows them.
 fn say_script(text: &mut PendingText, drawing: &Drawing, script: &[u8]) {
     let alloc = text.alloc;
     let mut lines = ScriptLines::of(script);
@@ -108,7 +109,7 @@ fn say_script(text: &mut PendingText, drawing: &Drawing, script: &[u8]) {
         }
         number = column.line;
         text.say_made(format!(in alloc; "{number:>5}  "));
-        text.add(line);
+        text.say_made(shown_text(alloc, line));
         text.end_line();
     }
 }

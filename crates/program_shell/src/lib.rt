@@ -19,7 +19,9 @@ pub use command::{VERSION, make_command, make_flag, make_option, make_top, with_
 pub use failure::{Failure, FailureLines};
 pub use line_reader::{LineReader, NextLine};
 pub use pending_text::PendingText;
-pub use refusal::{Refusal, RefusalText, Wrong, refusal_of, refusal_text, refused};
-pub use reports::{refuse_arguments, report_failure, report_to, unread_arguments, write_output};
+pub use refusal::{Refusal, RefusalText, Wrong, refusal_of, refusal_text, refused, usage_text};
+pub use reports::{
+    file_error_text, refuse_arguments, report_failure, report_to, unread_arguments, write_output,
+};
 pub use statuses::{DONE, FAILED, REFUSED, USAGE};
-pub use whole_input::{line_at, read_whole, without_return};
+pub use whole_input::{read_whole, without_return};

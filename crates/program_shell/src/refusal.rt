@@ -4,6 +4,7 @@ ghost use Rattle.program_shell.specs.Refusals.{IsKind};
 
 use clap::error::ErrorKind;
 use clap::{Command, Error};
+use shown_bytes::shown_lines;
 use std::alloc::{AllocError, Global};
 use word36::JOBS;
 
@@ -87,12 +88,18 @@ pub struct RefusalText {
     pub is_asked_for: bool,
 }
 
+/// What an error of the command line says. Bytes of arguments that do not print are shown in octal.
+pub fn usage_text(alloc: Global, error: &Error) -> Result<String, AllocError> {
+    let text = error.to_string(alloc)?;
+    shown_lines(alloc, text.as_str().as_bytes())
+}
+
 /// What is said of a refusal, or an error where there is no memory for it.
 pub fn refusal_text(alloc: Global, refusal: Refusal) -> Result<RefusalText, AllocError> {
     match refusal {
         Refusal::Memory => Err(AllocError),
         Refusal::Usage(error) => Ok(RefusalText {
-            text: error.to_string(alloc)?,
+            text: usage_text(alloc, &error)?,
             is_asked_for: !error.use_stderr(),
         }),
     }

@@ -6,8 +6,9 @@ use crate::failure::{Failure, FailureLines};
 use crate::refusal::{Refusal, refusal_text};
 use crate::statuses::{DONE, FAILED, USAGE};
 use script_io::{ByteOut, write_all};
-use std::alloc::Global;
-use std::io::ErrorKind;
+use shown_bytes::shown_text;
+use std::alloc::{AllocError, Global};
+use std::io::{self, ErrorKind};
 
 /// Writes a text to standard error, and gives the exit status. A failure of `errors` changes nothing.
 pub fn report_to<E: ByteOut>(errors: &mut E, text: &[u8], status: u8) -> u8
@@ -64,6 +65,17 @@ pub fn refuse_arguments<W: ByteOut, E: ByteOut>(
         Ok(said) => report_to(errors, said.text.as_str().as_bytes(), USAGE),
         Err(_) => report_failure(errors, lines, Failure::Memory),
     }
+}
+
+/// The line on a file that cannot be read or written: `head`, the file's name as a line for a person shows it, and why.
+pub fn file_error_text(
+    alloc: Global,
+    head: &str,
+    file: &str,
+    error: io::Error,
+) -> Result<String, AllocError> {
+    let name = shown_text(alloc, file.as_bytes())?;
+    format!(in alloc; "{head}{name}: {error}\n")
 }
 
 /// Reports why the arguments could not be read, and gives the exit status: one of them is not UTF-8, which refuses

@@ -19,3 +19,11 @@ end_of bytes = if nat_lt MOST_SHOWN (length bytes) then codes ".." else []
 -- the first bytes, and that
 abbrev pub shown : List ℕ → List ℕ
 shown bytes = flat_map shown_byte (take MOST_SHOWN bytes) ++ end_of bytes
+
+-- a byte of a text of several lines: a line feed as it is
+abbrev pub shown_in_lines : ℕ → List ℕ
+shown_in_lines byte = if byte == 10 then byte ∷ [] else shown_byte byte
+
+-- a text of several lines, all of it
+abbrev pub shown_lines : List ℕ → List ℕ
+shown_lines text = flat_map shown_in_lines text

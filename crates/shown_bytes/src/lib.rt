@@ -3,4 +3,4 @@
 
 mod pushing;
 
-pub use pushing::{MOST_SHOWN, push_shown, shown_text, shown_width};
+pub use pushing::{MOST_SHOWN, push_shown, shown_lines, shown_text, shown_width};

@@ -3,7 +3,7 @@ ghost use Rattle.std.specs.Prelude.{◌≡◌, ◌++◌, length, take, IfOk, OnO
 ghost use Rattle.std.specs.List.{flat_map};
 ghost use Rattle.script_io.specs.Printing.{escaped};
 ghost use Rattle.shown_bytes.specs.declared.pushing.TheConstants.{MOST_SHOWN};
-ghost use Rattle.shown_bytes.specs.Shown.{is_plain, shown_byte, end_of, shown};
+ghost use Rattle.shown_bytes.specs.Shown.{is_plain, shown_byte, end_of, shown, shown_in_lines, shown_lines};
 
 use std::alloc::{AllocError, Global};
 
@@ -85,6 +85,37 @@ pub fn shown_text(alloc: Global, bytes: &[u8]) -> Result<String, AllocError>
     let mut text = String::new(alloc);
     push_shown(&mut text, bytes)?;
     Ok(text)
+}
+
+/// Adds a byte of a text of several lines as it is shown.
+fn push_in_lines(out: &mut String, byte: u8) -> Result<(), AllocError>
+    ensures { OnOk result (string_bytes out.new ≡ string_bytes out.old ++ shown_in_lines byte) }
+{
+    if byte == b'\n' {
+        out.push('\n')
+    } else {
+        push_byte(out, byte)
+    }
+}
+
+/// Adds a text of several lines as it is shown.
+fn push_lines(out: &mut String, text: &[u8]) -> Result<(), AllocError>
+    ensures { OnOk result (string_bytes out.new ≡ string_bytes out.old ++ shown_lines text.now) }
+{
+    for byte in text {
+        push_in_lines(out, *byte)?;
+    }
+    Ok(())
+}
+
+/// A text of several lines as it is shown, however long it is: its line feeds stand as they are, and its other bytes as
+/// `push_shown` adds them.
+pub fn shown_lines(alloc: Global, text: &[u8]) -> Result<String, AllocError>
+    ensures { IfOk result (λ shown. string_bytes shown ≡ shown_lines text.now) }
+{
+    let mut shown = String::new(alloc);
+    push_lines(&mut shown, text)?;
+    Ok(shown)
 }
 
 /// How many columns a byte takes as it is shown; a tab counts as one.

@@ -25,6 +25,9 @@ const MOST_FAULTS: u64 = 1000;
 /// How the name of a picture ends, so that no source is written over by one that is named in its place.
 const PICTURE_END: &str = ".svg";
 
+/// How the name of a script ends, for the same reason.
+const RECORD_END: &str = ".run";
+
 /// What the arguments, which begin with the program's name, ask for.
 pub fn read_arguments<'a>(alloc: Global, arguments: &'a [String]) -> Result<Options<'a>, Refusal> {
     match ten_command(alloc) {
@@ -63,7 +66,13 @@ fn ten_command<'a>(alloc: Global) -> Result<Command<'a>, AllocError> {
             .value_name("FILE.svg")
             .help(texts::PICTURE),
     )?;
-    with_files(alloc, with_picture)
+    let with_record = with_picture.arg(
+        Arg::new(alloc, "record")
+            .long("record")
+            .value_name("FILE.run")
+            .help(texts::RECORD),
+    )?;
+    with_files(alloc, with_record)
 }
 
 /// What is asked for by what `clap` took.
@@ -82,7 +91,8 @@ fn options_in<'a>(alloc: Global, matches: &ArgMatches<'a>) -> Result<Options<'a>
         locks: matches.get_flag("locks"),
         history: history as usize,
         waits,
-        picture: picture_in(matches)?,
+        picture: file_in(matches, "picture", PICTURE_END)?,
+        record: file_in(matches, "record", RECORD_END)?,
         echo: matches.get_flag("echo"),
         faults: faults.unwrap_or(MOST_REPORTED as u64) as usize,
         names: shown_names(alloc, files.as_slice())?,
@@ -99,13 +109,17 @@ fn shown_names(alloc: Global, files: &[&str]) -> Result<Vec<String>, AllocError>
     Ok(names)
 }
 
-/// The file of the picture, if it is given.
-fn picture_in<'a>(matches: &ArgMatches<'a>) -> Result<Option<&'a str>, Wrong<'a>> {
-    let Some(written) = matches.get_str("picture") else {
+/// The file of an option, if it is given; its name has to end so.
+fn file_in<'a>(
+    matches: &ArgMatches<'a>,
+    option: &'static str,
+    ending: &'static str,
+) -> Result<Option<&'a str>, Wrong<'a>> {
+    let Some(written) = matches.get_str(option) else {
         return Ok(None);
     };
-    if !written.ends_with(PICTURE_END) {
-        return Err(Wrong::Ending("picture", written, PICTURE_END));
+    if !written.ends_with(ending) {
+        return Err(Wrong::Ending(option, written, ending));
     }
     Ok(Some(written))
 }

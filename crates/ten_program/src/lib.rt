@@ -12,6 +12,7 @@ mod notes;
 mod options;
 mod picture;
 mod program;
+mod recording;
 mod running;
 mod session;
 mod terminal;

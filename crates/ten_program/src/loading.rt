@@ -1,6 +1,7 @@
 //! Assembles sources and loads core images, and logs a job in for each.
 
 use crate::jobs::RunningJob;
+use crate::recording::Recording;
 use crate::terminal::Terminal;
 use concrete_machine::Machine;
 use image_files::Packing;
@@ -8,6 +9,7 @@ use monitor::{Answer, Event, RefusedEvent};
 use program_files::read_program;
 use program_shell::PendingText;
 use run_notes::TracedJob;
+use run_record::RunEvent;
 use source_labels::{Assembled, Program, Source, warnings_of};
 use word36::{Address, Image};
 
@@ -55,11 +57,19 @@ fn refusal_text(refusal: RefusedEvent) -> &'static str {
     }
 }
 
-/// Logs a job in at a terminal line, and starts it. Gives its number, or why it is refused.
-fn log_in(machine: &mut Machine, line: u8, image: &Image) -> Result<u8, RefusedEvent> {
+/// Logs a job in at a terminal line, and starts it: the first program at line 0, and so on. Gives its number, or why it is
+/// refused.
+fn log_in(
+    machine: &mut Machine,
+    line: u8,
+    image: &Image,
+    recording: &mut Recording,
+) -> Result<u8, RefusedEvent> {
     match machine.event(&Event::Login(line, image)) {
         Answer::JobNumber(number) => {
+            recording.add(RunEvent::Login(line, line.saturating_add(1)));
             machine.event(&Event::Start(number));
+            recording.add(RunEvent::Start(number));
             Ok(number)
         }
         Answer::Refused(refusal) => Err(refusal),
@@ -96,12 +106,13 @@ pub fn log_in_all(
     machine: &mut Machine,
     programs: Vec<Program<'_>>,
     jobs: &mut Vec<RunningJob>,
+    recording: &mut Recording,
     errors: &mut PendingText,
 ) -> bool {
     let is_numbered = programs.len() > 1;
     let mut line = 0u8;
     for program in programs {
-        match log_in(machine, line, &program.image) {
+        match log_in(machine, line, &program.image, recording) {
             Ok(number) => {
                 let terminal = Terminal::new(line, is_numbered);
                 if jobs.push(job_of(program, number, terminal)).is_err() {

@@ -22,6 +22,8 @@ pub struct Options<'a> {
     pub waits: Option<u64>,
     /// The file to which a picture of the run is written, if that is asked for.
     pub picture: Option<&'a str>,
+    /// The file to which the run is written as a script of `lockmon run`, if that is asked for.
+    pub record: Option<&'a str>,
     /// Whether what is typed is written to the output too.
     pub echo: bool,
     /// So many faults of a source are reported.

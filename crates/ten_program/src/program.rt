@@ -7,7 +7,8 @@ use crate::running::run_jobs;
 use crate::session::Session;
 use concrete_machine::Machine;
 use program_shell::{
-    DONE, FAILED, Failure, FailureLines, PendingText, REFUSED, Refusal, USAGE, refusal_text,
+    DONE, FAILED, Failure, FailureLines, PendingText, REFUSED, Refusal, USAGE, file_error_text,
+    refusal_text,
 };
 use source_labels::Source;
 use std::alloc::Global;
@@ -22,8 +23,7 @@ pub const FAILURE_LINES: FailureLines = FailureLines {
 
 /// Reports that a file cannot be read or written.
 fn report_error(head: &str, file: &str, error: io::Error, errors: &mut PendingText) {
-    let alloc = errors.alloc;
-    errors.say_made(format!(in alloc; "ten: {head}{file}: {error}\n"));
+    errors.say_made(file_error_text(errors.alloc, head, file, error));
 }
 
 /// Reads all sources; false at the first that cannot be read, which is reported.
@@ -47,7 +47,7 @@ fn read_sources<'a, H: Host>(
                 }
             }
             Err(error) => {
-                report_error("", name, error, errors);
+                report_error("ten: ", name, error, errors);
                 return false;
             }
         }
@@ -55,19 +55,20 @@ fn read_sources<'a, H: Host>(
     true
 }
 
-/// Writes the picture of a run that had this status to a file, and gives the status; or reports why it cannot be
-/// written, and gives `FAILED`.
-fn write_picture<H: Host>(
+/// Writes what is kept of a run that had this status to a file, and gives the status; or reports by a line that begins so
+/// why it cannot be written, and gives `FAILED`.
+fn write_kept<H: Host>(
     host: &mut H,
+    head: &str,
     file: &str,
-    picture: &str,
+    kept: &[u8],
     status: u8,
     errors: &mut PendingText,
 ) -> Result<u8, Failure> {
-    match host.write_file(file, picture.as_bytes()) {
+    match host.write_file(file, kept) {
         Ok(()) => Ok(status),
         Err(error) => {
-            report_error("the picture cannot be written: ", file, error, errors);
+            report_error(head, file, error, errors);
             write_pending(host, Stream::Errors, errors).and(Ok(FAILED))
         }
     }
@@ -85,8 +86,53 @@ fn report_refusal<H: Host>(alloc: Global, refusal: Refusal, host: &mut H) -> Res
     Ok(status)
 }
 
-/// Assembles sources, runs a job for each of them, writes the picture of the run if it is asked for, and gives the
-/// exit status.
+/// Writes the picture of a run that had this status, if it is asked for, and gives the status, or `FAILED` where the picture
+/// cannot be written.
+fn write_picture<H: Host>(
+    host: &mut H,
+    session: &mut Session,
+    machine: &Machine,
+    file: Option<&str>,
+    status: u8,
+) -> Result<u8, Failure> {
+    let Ok(svg) = session.take_svg(machine) else {
+        return Err(Failure::Memory);
+    };
+    match (file, svg) {
+        (Some(file), Some(svg)) => {
+            let (head, errors) = ("ten: the picture cannot be written: ", &mut session.errors);
+            write_kept(host, head, file, svg.as_str().as_bytes(), status, errors)
+        }
+        _ => Ok(status),
+    }
+}
+
+/// Writes the script of a run that had this status, if it is asked for, and gives the status, or `FAILED` where the script
+/// cannot be written.
+fn write_script<H: Host>(
+    host: &mut H,
+    session: &mut Session,
+    sources: &[Source<'_>],
+    options: &Options<'_>,
+    status: u8,
+) -> Result<u8, Failure> {
+    let Ok(script) = session
+        .recording
+        .script(session.errors.alloc, options.config, sources)
+    else {
+        return Err(Failure::Memory);
+    };
+    match (options.record, script) {
+        (Some(file), Some(script)) => {
+            let (head, errors) = ("ten: the script cannot be written: ", &mut session.errors);
+            write_kept(host, head, file, script.as_slice(), status, errors)
+        }
+        _ => Ok(status),
+    }
+}
+
+/// Assembles sources, runs a job for each of them, writes the picture and the script of the run if they are asked for, and
+/// gives the exit status.
 fn serve_sources<H: Host>(
     host: &mut H,
     session: &mut Session,
@@ -100,16 +146,8 @@ fn serve_sources<H: Host>(
         return Ok(REFUSED);
     }
     let status = run_jobs(host, session, machine, options)?;
-    let Ok(svg) = session.take_svg(machine) else {
-        return Err(Failure::Memory);
-    };
-    match (options.picture, svg) {
-        (Some(file), Some(svg)) => {
-            let errors = &mut session.errors;
-            write_picture(host, file, svg.as_str(), status, errors)
-        }
-        _ => Ok(status),
-    }
+    let drawn = write_picture(host, session, machine, options.picture, status)?;
+    write_script(host, session, sources, options, drawn)
 }
 
 /// Reads the sources that the options name, runs them, and gives the exit status.
@@ -137,8 +175,8 @@ fn serve<H: Host>(alloc: Global, options: &Options<'_>, host: &mut H) -> Result<
 }
 
 /// Does what the arguments, which begin with the program's name, ask for, and gives the exit status: reads files,
-/// assembles them and runs them. Input is read only when a job waits for it. A picture that is asked for is written
-/// behind the run. The help and the version go to the output, and then nothing is run.
+/// assembles them and runs them. Input is read only when a job waits for it. A picture and a script that are asked
+/// for are written behind the run. The help and the version go to the output, and then nothing is run.
 pub fn ten<H: Host>(alloc: Global, arguments: &[String], host: &mut H) -> u8 {
     let served = match read_arguments(alloc, arguments) {
         Ok(options) => serve(alloc, &options, host),

@@ -14,7 +14,8 @@ fn type_awaited<H: Host>(
     echo: bool,
 ) -> Result<(), Failure> {
     let (typing, jobs) = (&mut session.typing, session.jobs.as_slice());
-    typing.type_on(machine);
+    let recording = &mut session.recording;
+    typing.type_on(machine, recording);
     for _ in 0..u64::MAX {
         if !typing.wants_line(machine, jobs) {
             break;
@@ -24,7 +25,7 @@ fn type_awaited<H: Host>(
         if !has_come {
             break;
         }
-        if typing.begin(machine, jobs).is_err() {
+        if typing.begin(machine, jobs, recording).is_err() {
             return Err(Failure::Memory);
         }
         if echo {

@@ -5,23 +5,23 @@ use crate::loading::{assemble_all, log_in_all};
 use crate::notes::{Notes, report_circle};
 use crate::options::Options;
 use crate::picture::Picture;
+use crate::recording::{Recording, are_quotable};
 use crate::terminal::Terminal;
 use crate::typing::Typing;
 use crate::waits::Waits;
 use concrete_machine::Machine;
+use machine::MOST_TAKES;
 use monitor::{Answer, Event};
 use program_shell::PendingText;
 use run_facts::{Ending, has_ended_well, status_of};
 use run_notes::has_circle;
+use run_record::RunEvent;
 use source_labels::Source;
 use std::alloc::{AllocError, Global};
-use word36::{Image, OUTPUT_RING, TAKEN_AT_ONCE};
+use word36::{Image, TAKEN_AT_ONCE};
 
 /// A step, and the tick behind it.
 const ROUND: [Event<'static>; 2] = [Event::Step, Event::Tick];
-
-/// How many Take events empty an output ring that is full.
-const MOST_TAKES: usize = OUTPUT_RING / TAKEN_AT_ONCE + 1;
 
 /// A run of programs: its jobs, and what is typed, reported and drawn. The machine stands beside it.
 #[derive(Drop)]
@@ -42,6 +42,8 @@ pub struct Session {
     notes: Notes,
     /// What is drawn of it.
     picture: Picture,
+    /// What happened in it.
+    pub recording: Recording,
 }
 
 /// A job's turn.
@@ -53,20 +55,23 @@ pub struct Turn {
     waits: Waits,
 }
 
-/// Takes what a job has typed out.
-fn take_output(machine: &mut Machine, terminal: &mut Terminal, output: &mut PendingText) {
+/// Takes what a job has typed out; false where there is nothing.
+fn take_output(machine: &mut Machine, terminal: &mut Terminal, output: &mut PendingText) -> bool {
     // An event may hold an image, of which these have none: the prover wants its type to be named.
     let _image: Option<&Image> = None;
+    let mut has_some = false;
     for _ in 0..MOST_TAKES {
         let Answer::Text(taken) = machine.event(&Event::Take(terminal.line, TAKEN_AT_ONCE)) else {
-            return;
+            break;
         };
         let text = taken.as_slice();
         if text.is_empty() {
-            return;
+            break;
         }
+        has_some = true;
         terminal.print(text, output);
     }
+    has_some
 }
 
 impl Session {
@@ -81,13 +86,15 @@ impl Session {
             ticks: 0,
             notes: Notes::new(alloc, options),
             picture: Picture::new(alloc, options.picture.is_some()),
+            recording: Recording::new(alloc, options.record.is_some()),
         }
     }
 
     /// Ends the run, and frees its memory and its machine's.
     pub fn end(self, _machine: Machine) {}
 
-    /// Assembles sources and loads core images, and logs a job in for each; false where one is refused, which is reported.
+    /// Assembles sources and loads core images, and logs a job in for each; false where one is refused, or cannot be
+    /// recorded though that is asked for, which is reported.
     pub fn begin(
         &mut self,
         machine: &mut Machine,
@@ -98,7 +105,17 @@ impl Session {
         else {
             return false;
         };
-        if !log_in_all(machine, programs, &mut self.jobs, &mut self.errors) {
+        if options.record.is_some() && !are_quotable(sources, &mut self.errors) {
+            return false;
+        }
+        let recording = &mut self.recording;
+        if !log_in_all(
+            machine,
+            programs,
+            &mut self.jobs,
+            recording,
+            &mut self.errors,
+        ) {
             return false;
         }
         let (alloc, jobs) = (self.errors.alloc, self.jobs.as_slice());
@@ -114,7 +131,9 @@ impl Session {
 
     /// Makes a step, and gives whose turn it was. What that job typed out is in `output`, to be written now.
     pub fn step(&mut self, machine: &mut Machine) -> Option<Turn> {
-        match machine.event(&ROUND[0]) {
+        let answer = machine.event(&ROUND[0]);
+        self.recording.add(RunEvent::Step);
+        match answer {
             Answer::Ran(number) => Some(self.note_step(machine, number)),
             _ => None,
         }
@@ -137,7 +156,9 @@ impl Session {
         }
         self.typing.is_awaited |= turn.waits.input;
         self.is_limited |= turn.waits.limit;
-        take_output(machine, &mut job.terminal, &mut self.output);
+        if take_output(machine, &mut job.terminal, &mut self.output) {
+            self.recording.add(RunEvent::Take(job.terminal.line));
+        }
         if turn.waits.input {
             job.terminal.flush(&mut self.output);
         }
@@ -159,6 +180,7 @@ impl Session {
             self.errors.fail();
         }
         machine.event(&ROUND[1]);
+        self.recording.add(RunEvent::Tick);
         self.ticks = self.ticks.saturating_add(1);
         if self.is_limited {
             self.note_limits(machine);

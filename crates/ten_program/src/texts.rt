@@ -40,6 +40,10 @@ pub const ECHO: &str = "writes what is typed to standard output too, before what
 pub const MAX_ERRORS: &str =
     "tells so many errors of a source, 1 to 1000, and counts the others [default: 20]";
 
+/// `--record`.
+pub const RECORD: &str =
+    "writes the run as a script of `lockmon run`, in which the same happens again";
+
 /// `--picture`.
 pub const PICTURE: &str =
     "writes a picture of the run: who has which lock at which tick, and who waits for whom";

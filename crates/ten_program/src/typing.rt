@@ -4,10 +4,12 @@ ghost use Rattle.word36.specs.declared.sizes.TheConstants.{JOBS};
 ghost use Rattle.run_facts.specs.Typing.{line_for, text_for};
 
 use crate::jobs::RunningJob;
+use crate::recording::Recording;
 use crate::waits::Waits;
 use concrete_machine::Machine;
 use monitor::{Answer, Event, RefusedEvent};
 use run_facts::{Target, target_of};
+use run_record::RunEvent;
 use std::alloc::{AllocError, Global};
 use tty_lines::Char7;
 use word36::{Image, JOBS};
@@ -28,15 +30,18 @@ pub struct Typing {
 }
 
 /// Types a byte at a terminal line; false where there is no room for it. A byte that is no character is left out.
-fn type_byte(machine: &mut Machine, line: u8, byte: u8) -> bool {
+fn type_byte(machine: &mut Machine, line: u8, byte: u8, recording: &mut Recording) -> bool {
     // An event may hold an image, of which this one has none: the prover wants its type to be named.
     let _image: Option<&Image> = None;
-    match Char7::try_new(byte) {
-        None => true,
-        Some(character) => !matches!(
-            machine.event(&Event::Typed(line, character)),
-            Answer::Refused(RefusedEvent::Full)
-        ),
+    let Some(character) = Char7::try_new(byte) else {
+        return true;
+    };
+    match machine.event(&Event::Typed(line, character)) {
+        Answer::Refused(refusal) => refusal != RefusedEvent::Full,
+        _ => {
+            recording.add(RunEvent::Typed(line, character));
+            true
+        }
     }
 }
 
@@ -61,13 +66,13 @@ impl Typing {
     }
 
     /// Types on at the line in hand, as far as there is room for it.
-    pub fn type_on(&mut self, machine: &mut Machine) {
+    pub fn type_on(&mut self, machine: &mut Machine, recording: &mut Recording) {
         let rest = self.text.len().saturating_sub(self.typed);
         for _ in 0..rest {
             let Some(byte) = self.text.as_slice().get(self.typed).copied() else {
                 return;
             };
-            if !type_byte(machine, self.line, byte) {
+            if !type_byte(machine, self.line, byte, recording) {
                 return;
             }
             self.typed = self.typed.saturating_add(1);
@@ -85,13 +90,18 @@ impl Typing {
     }
 
     /// Begins to type `text`, a line of the input without its end, at the terminal line that it names.
-    pub fn begin(&mut self, machine: &mut Machine, jobs: &[RunningJob]) -> Result<(), AllocError> {
+    pub fn begin(
+        &mut self,
+        machine: &mut Machine,
+        jobs: &[RunningJob],
+        recording: &mut Recording,
+    ) -> Result<(), AllocError> {
         self.text.push(b'\n')?;
         let target = target_among(jobs, self.text.as_slice());
         let (line, rest) = (target.line, target.text.len());
         self.line = line;
         self.typed = self.text.len().saturating_sub(rest);
-        self.type_on(machine);
+        self.type_on(machine, recording);
         Ok(())
     }
 

@@ -1,0 +1,4 @@
+pub mod Pieces
+pub mod Quotes
+pub mod ReadBack
+pub mod Scripts

@@ -1,0 +1,157 @@
+//! A run as a script.
+ghost use Rattle.std.specs.Prelude.{◌≡◌, ◌<◌, ◌++◌, codes, OnOk};
+ghost use Rattle.std.specs.List.{flat_map};
+ghost use Rattle.op_script.specs.Texts.{printed, printed_character};
+ghost use Rattle.run_record.specs.Scripts.{ended, counted, program_name, run_lines, step_lines, text_of, text_in};
+
+use crate::pieces::Piece;
+use script_io::{push_decimal, push_escaped};
+use std::alloc::AllocError;
+use tty_lines::Char7;
+
+/// The most bytes of a file's name that are written in a remark.
+const MOST_NAMED: usize = 200;
+
+/// Adds a command with a number, and the end of its line.
+fn push_counted(out: &mut Vec<u8>, name: &[u8], number: u32) -> Result<(), AllocError>
+    ensures { OnOk result (out.new.items ≡ out.old.items ++ ended (counted name.now number)) }
+{
+    out.extend_from_slice(name)?;
+    push_decimal(out, number)?;
+    out.push(b'\n')?;
+    Ok(())
+}
+
+/// Adds LOGIN.
+fn push_login(out: &mut Vec<u8>, line: u8, program: u8) -> Result<(), AllocError>
+    ensures { OnOk result
+        (out.new.items ≡ out.old.items ++ ended (counted (codes "LOGIN ") line ++ codes " " ++ program_name program)) }
+{
+    out.extend_from_slice(b"LOGIN ")?;
+    push_decimal(out, line)?;
+    out.extend_from_slice(b" P")?;
+    push_decimal(out, program)?;
+    out.push(b'\n')?;
+    Ok(())
+}
+
+/// Adds a character as TYPE spells it.
+fn push_character(out: &mut Vec<u8>, character: u8) -> Result<(), AllocError>
+    requires { character < 128 }
+    ensures { OnOk result (out.new.items ≡ out.old.items ++ printed_character character) }
+{
+    match character {
+        b'\n' => out.extend_from_slice(b"\\n")?,
+        b'\r' => out.extend_from_slice(b"\\r")?,
+        0o33 => out.extend_from_slice(b"\\e")?,
+        b'\\' => out.extend_from_slice(b"\\\\")?,
+        0..=0o37 | 0o177 => return push_escaped(out, character),
+        _ => out.push(character)?,
+    }
+    Ok(())
+}
+
+/// Adds characters as TYPE spells them.
+fn push_text(out: &mut Vec<u8>, text: &[Char7]) -> Result<(), AllocError>
+    ensures { OnOk result (out.new.items ≡ out.old.items ++ printed text.now) }
+{
+    for character in text {
+        push_character(out, character.number())?;
+    }
+    Ok(())
+}
+
+/// Adds TYPE.
+fn push_typed(out: &mut Vec<u8>, line: u8, text: &[Char7]) -> Result<(), AllocError>
+    ensures { OnOk result
+        (out.new.items ≡ out.old.items ++ ended (counted (codes "TYPE ") line ++ codes " " ++ printed text.now)) }
+{
+    out.extend_from_slice(b"TYPE ")?;
+    push_decimal(out, line)?;
+    out.push(b' ')?;
+    push_text(out, text)?;
+    out.push(b'\n')?;
+    Ok(())
+}
+
+/// Adds RUN, where there are rounds, and STEP, where there is one step more.
+fn push_rounds(out: &mut Vec<u8>, rounds: u32, stepped: bool) -> Result<(), AllocError>
+    ensures { OnOk result
+        (out.new.items ≡ out.old.items ++ flat_map ended (run_lines rounds ++ step_lines stepped)) }
+{
+    if rounds > 0 {
+        push_counted(out, b"RUN ", rounds)?;
+    }
+    if stepped {
+        out.extend_from_slice(b"STEP 1\n")?;
+    }
+    Ok(())
+}
+
+/// Adds the lines of a piece of a run.
+fn push_piece(out: &mut Vec<u8>, piece: &Piece) -> Result<(), AllocError>
+    ensures { OnOk result (out.new.items ≡ out.old.items ++ text_of piece.now) }
+{
+    match piece {
+        Piece::Login(line, program) => push_login(out, *line, *program),
+        Piece::Start(job) => push_counted(out, b"START ", u32::from(*job)),
+        Piece::Continue(job) => push_counted(out, b"CONTINUE ", u32::from(*job)),
+        Piece::Kill(job) => push_counted(out, b"KILL ", u32::from(*job)),
+        Piece::Restart => {
+            out.extend_from_slice(b"RESTART\n")?;
+            Ok(())
+        }
+        Piece::Rounds(rounds, stepped) => push_rounds(out, *rounds, *stepped),
+        Piece::Ticks(ticks) => push_counted(out, b"TICK ", *ticks),
+        Piece::Typed(line, text) => push_typed(out, *line, text.as_slice()),
+        Piece::Take(line) => push_counted(out, b"TAKE ", u32::from(*line)),
+    }
+}
+
+/// Adds the lines of pieces of a run, in order. It fails only where there is no memory, as all of these do.
+pub fn push_pieces(out: &mut Vec<u8>, pieces: &[Piece]) -> Result<(), AllocError>
+    ensures { OnOk result (out.new.items ≡ out.old.items ++ text_in pieces.now) }
+{
+    for piece in pieces {
+        push_piece(out, piece)?;
+    }
+    Ok(())
+}
+
+/// Adds a remark with the command that obeys the script: a machine of so many blocks and a quantum of so many ticks.
+pub fn push_head(out: &mut Vec<u8>, blocks: u32, quantum: u8) -> Result<(), AllocError> {
+    out.extend_from_slice(b"; lockmon run --blocks ")?;
+    push_decimal(out, blocks)?;
+    out.extend_from_slice(b" --quantum ")?;
+    push_decimal(out, quantum)?;
+    out.push(b'\n')?;
+    Ok(())
+}
+
+/// Adds a source, whose lines can stand in a script, as the program of this number; a remark has the name of its file, as a
+/// line for a person shows it.
+pub fn push_program(
+    out: &mut Vec<u8>,
+    program: u8,
+    file: &str,
+    text: &[u8],
+) -> Result<(), AllocError> {
+    let name = file.as_bytes();
+    out.extend_from_slice(b"; ")?;
+    out.extend_from_slice(&name[..name.len().min(MOST_NAMED)])?;
+    out.extend_from_slice(b"\nASSEMBLE P")?;
+    push_decimal(out, program)?;
+    out.push(b'\n')?;
+    out.extend_from_slice(text)?;
+    if !text.ends_with(b"\n") {
+        out.push(b'\n')?;
+    }
+    out.extend_from_slice(b"ENDASM\n")?;
+    Ok(())
+}
+
+/// Adds what shows how the jobs and the locks stand at the end.
+pub fn push_end(out: &mut Vec<u8>) -> Result<(), AllocError> {
+    out.extend_from_slice(b"SHOW JOBS\nSHOW LOCKS\nSHOW WAITS\n")?;
+    Ok(())
+}
