@@ -1,6 +1,7 @@
 #!/usr/bin/env python3
 """Damages examples/digits.sav at each of its bytes, and cuts it off at each, and has `image list` read what comes of it. A
-run has to end with status 0 and an image, or with status 1 and a line that names what is wrong and the word where it is.
+run has to end with status 0 and an image, or with status 1, a line that names what is wrong and the word where it is, and
+one that says which packing fits, or which there are.
 The argument is the program; without it the one that `rt ci` built."""
 import os
 import re
@@ -12,7 +13,7 @@ from pathlib import Path
 TOP = Path(__file__).resolve().parent.parent
 IMAGE = re.compile(rb"(?:[0-7]{6} [0-7]{6},,[0-7]{6}\n)*START [0-7]{6}\n")
 REFUSAL = re.compile(rb"\?(?:WORD|SAVE) [1-9][0-9]* [A-Z]+\n")
-REASON = re.compile(rb"image: word [1-9][0-9]*: .+\n")
+REASON = re.compile(rb"image: word [1-9][0-9]*: .+\n    (?:it can be read by --from [a-z]+|--from says how .+)\n")
 DAMAGES = (0x01, 0x08, 0x10, 0x80, 0xFF)
 """The bits that are turned over, each in turn."""
 
