@@ -1,17 +1,14 @@
 """The edits that must fail: wrong bodies of functions, each of which the prover has to refuse.
 
 Those in crates/NAME/must-fail are tried by each run of the gate. The others, in crates/NAME/must-fail-recorded, have
-the same form, and `rt ci` does not read them. What an edit comes to depends on the kit, its crate, the crates below
-and its own text alone, so tests/refused_edits.txt has the sum of these for each edit that was seen refused. A run of
-the gate tries the edits whose sum is another one now, and some whose sum is the same, so that a false record is
-found."""
+the same form. What an edit comes to depends on the logic, its crate, what the crates below promise, and its own text
+alone, so tests/refused_edits.txt has the sum of these for each edit that was seen refused. A run of the gate tries the
+edits whose sum is another one now, and some whose sum is the same, so that a false record is found."""
 
 import contextlib
 import hashlib
 import os
 import random
-import re
-import shutil
 
 import crates
 
@@ -22,8 +19,8 @@ RECORD = f"{crates.TOP}/tests/refused_edits.txt"
 # So many edits whose sum is the recorded one are tried nevertheless.
 TRIED_AGAIN = 10
 
-# What `rt ci` says of an edit that was tried.
-SAID = re.compile(r"^rt: must-fail (\S+)/(\S+)\.edit: (.*)")
+# Where the edits of the gate stand while `rt ci` runs.
+ASIDE = f"{crates.TOP}/.git/must-fail"
 
 
 class Edit:
@@ -93,33 +90,36 @@ def write_record(refused, tried):
         to.write("\n".join(lines) + "\n")
 
 
-def borrowed(commit):
-    """Gives the edits outside the gate that a run of it tries: those whose sum is not the recorded one; and some of
-    the others, chosen by the commit's name. These are of as few crates as can be, since the first edit of a crate is
-    the dear one."""
+def of_a_run(commit):
+    """Gives the edits that a run of the gate tries: its own; the others whose sum is not the recorded one; and some of
+    those whose sum is, chosen by the commit's name. These are of as few crates as can be, since the libraries of a
+    crate are read for its first edit."""
     known = recorded()
+    own = [it for it in all_edits() if it.is_of_gate]
     others = [it for it in all_edits() if not it.is_of_gate]
     changed = [it for it in others if known.get(str(it)) != it.sum()]
     same = [it for it in others if it not in changed]
     order = sorted({it.crate for it in same})
     random.Random(commit).shuffle(order)
-    return changed, sorted(same, key=lambda it: order.index(it.crate))[:TRIED_AGAIN]
+    return own, changed, sorted(same, key=lambda it: order.index(it.crate))[:TRIED_AGAIN]
+
+
+def put_back():
+    """Puts the edits of the gate back where they stand."""
+    for crate in os.listdir(ASIDE) if os.path.isdir(ASIDE) else []:
+        os.rename(f"{ASIDE}/{crate}", f"{crates.TOP}/crates/{crate}/{GATE}")
 
 
 @contextlib.contextmanager
-def lent_to_the_gate(edits):
-    """Puts edits where `rt ci` reads them, for as long as it runs."""
-    lent = []
+def kept_from_rt_ci():
+    """Hides the edits of the gate for as long as `rt ci` runs: it would prove each of their crates once more, whole,
+    where a check of the functions that they change costs seconds."""
+    put_back()
+    os.makedirs(ASIDE, exist_ok=True)
     try:
-        for it in edits:
-            to = f"{crates.TOP}/crates/{it.crate}/{GATE}/{it.name}.edit"
-            if not os.path.exists(to):
-                os.makedirs(os.path.dirname(to), exist_ok=True)
-                lent.append(to)
-                shutil.copyfile(it.path, to)
+        for crate in crates.libraries():
+            if os.path.isdir(f"{crates.TOP}/crates/{crate}/{GATE}"):
+                os.rename(f"{crates.TOP}/crates/{crate}/{GATE}", f"{ASIDE}/{crate}")
         yield
     finally:
-        for it in lent:
-            with contextlib.suppress(OSError):
-                os.remove(it)
-                os.rmdir(os.path.dirname(it))
+        put_back()

@@ -8,7 +8,6 @@ import threading
 import time
 
 import crates
-import edits
 
 # The variable that marks the processes of a run.
 MARK = "HIRVODAS_GATE"
@@ -23,7 +22,7 @@ KEPT = re.compile(r"^rt: (\w+) is kept")
 
 class Clock:
     """Looks at the processes of a run again and again, and adds up the processor seconds of each crate's proof,
-    tests, edits and builds. What ends between two looks is lost, so half a second at the most of each."""
+    tests and builds. What ends between two looks is lost, so half a second at the most of each."""
 
     def __init__(self):
         self.mark, self.seen, self.is_over = f"{os.getpid()}.{time.time_ns()}", {}, threading.Event()
@@ -69,16 +68,11 @@ class Clock:
 
 
 def place_of(words, folder):
-    """Gives the crate that a process works for, if it is known, and what it is at: a proof, tests, an edit (by its
-    number in the crate), what the edits of a crate begin with, a build, or something else."""
+    """Gives the crate that a process works for, if it is known, and what it is at: a proof, tests, a build, or
+    something else."""
     if "--crate-name" not in words:
         return os.path.basename(folder), "build" if os.path.basename(words[0]) in ("clang", "rattle-link") else "else"
     crate = words[words.index("--crate-name") + 1]
-    if "--incremental" in words:
-        begun = os.path.basename(words[words.index("--incremental") + 1])
-        return crate, f"edit {begun}" if begun.isdigit() else "edits' start"
-    if "/rt-edit-" in folder:
-        return crate, "edit alone"
     if "--crate-checked" in words:
         return crate, "build"
     return crate, "tests" if "--test" in words else "proof"
@@ -89,23 +83,20 @@ class Teller:
     other lines as they are."""
 
     def __init__(self, whole, clock):
-        self.whole, self.clock, self.done, self.block, self.began = whole, clock, 0, None, time.time()
-        self.refused, self.tried, self.bad, self.last = set(), set(), [], ""
+        self.whole, self.clock, self.done, self.block, self.began, self.last = whole, clock, 0, None, time.time(), ""
 
     def tell(self, text):
         print(f"[{(time.time() - self.began) / 60:5.1f} min] {text}", flush=True)
 
     def take(self, line):
         self.last = line if line.strip() else self.last
-        proof, edit = PROVED.match(line), edits.SAID.match(line)
+        proof = PROVED.match(line)
         if line.startswith("== "):
             self.block = []
         elif proof:
             self.end_proof(line, *proof.groups())
         elif self.block is not None:
             self.block.append(line)
-        elif edit:
-            self.take_edit(*edit.groups())
         else:
             self.done += bool(KEPT.match(line))
             self.tell(line)
@@ -119,26 +110,14 @@ class Teller:
         self.block = None
         self.tell(f"{self.done} of {self.whole} proofs: {crate}{tests or ''} {found} ({took:.0f} s of a processor)")
 
-    def take_edit(self, crate, name, found):
-        edit = f"{crate}/{name}"
-        self.tried.add(edit)
-        # (one that is refused since a proof file names what is gone shows nothing of a contract, and is not put on record)
-        if found.startswith("refused, as it must be") and "only because a proof file" not in found:
-            self.refused.add(edit)
-        elif found.startswith("BAD EDIT"):
-            self.bad.append(edit)
-        self.tell(f"{edit}: {found}")
 
-
-def run(names=()):
-    """Runs `rt ci` over all crates, or over some and those below, and gives its status, what it said, and the clock."""
-    asked = names or crates.libraries()
-    asked = {it for name in asked for it in [*crates.below(name), name]}
-    whole = len(asked) + sum(map(crates.has_tests, asked))
+def run():
+    """Runs `rt ci` over all crates, and gives its status, its last line, and the clock."""
+    whole = len(crates.libraries()) + sum(map(crates.has_tests, crates.libraries()))
     with Clock() as clock:
         teller = Teller(whole, clock)
         how = {"stdout": subprocess.PIPE, "stderr": subprocess.STDOUT, "text": True, "errors": "replace"}
-        with subprocess.Popen(["rt", "ci", *names], cwd=crates.TOP, env=clock.environment(), **how) as ran:
+        with subprocess.Popen(["rt", "ci"], cwd=crates.TOP, env=clock.environment(), **how) as ran:
             for line in ran.stdout:
                 teller.take(line.rstrip("\n"))
-        return ran.returncode, teller, clock
+        return ran.returncode, teller.last, clock

@@ -49,7 +49,7 @@ def kinds(seconds):
     """Gives minutes of a processor by the kinds of a process, in words."""
     found = collections.Counter()
     for (_, kind), it in seconds.items():
-        found["edits" if kind.startswith("edit ") or kind == "edit alone" else kind] += it / 60
+        found[kind] += it / 60
     return found
 
 
@@ -62,17 +62,6 @@ def table(parts, seconds):
             lines += [f"{'  ' + kind:<40}{it:>10.1f}" for kind, it in sorted(kinds(seconds).items())]
     total = [sum(it) for it in zip(*parts.values())]
     return "\n".join([*lines, f"{'all':<40}{total[0]:>10.1f}{total[1]:>8.1f}"])
-
-
-def of_edits(seconds, every):
-    """Gives the processor seconds of each edit that was tried just now, the dearest first."""
-    numbered = {}
-    for crate in {it.crate for it in every}:
-        own = sorted((it for it in every if it.crate == crate), key=lambda it: f"{it.name}.edit")
-        numbered |= {(crate, f"edit {number}"): it for number, it in enumerate(own)}
-    lines = [(it, str(numbered[key])) for key, it in seconds.items() if key in numbered]
-    lines += [(it, f"{crate}: {kind}") for (crate, kind), it in seconds.items() if kind in ("edits' start", "edit alone")]
-    return "\n".join(f"{it:8.1f} s {name}" for it, name in sorted(lines, reverse=True))
 
 
 def lines_in(crate, part, end):
@@ -88,7 +77,7 @@ def functions_in(crate):
 def row(crate, seconds):
     """Gives the row of a crate in the page's table."""
     own = kinds({key: it for key, it in seconds.items() if key[0] == crate})
-    minutes = [own["proof"], own["tests"], own["build"], own["edits' start"] + own["edits"]]
+    minutes = [own["proof"], own["tests"], own["build"]]
     shown = [f"{it:.1f}" if it >= 0.05 else "" for it in minutes]
     sizes = [functions_in(crate), *(lines_in(crate, *it) for it in (("src", ".rt"), ("specs", ".antt"), ("proofs", ".antt")))]
     return sum(minutes), f"| `{crate}` | {' | '.join(shown)} | {' | '.join(f'{it:,}' if it else '' for it in sizes)} |"
@@ -118,7 +107,7 @@ def write():
     lines += [f"| {kind} | {it:.1f} |" for kind, it in sorted(kinds(known.seconds).items())]
     chain, names = longest_chain(known.seconds)
     lines += ["", f"The longest chain of proofs takes {chain:.1f} minutes: {', '.join(f'`{it}`' for it in names)}."]
-    lines += ["", "| Crate | Proof | Tests | Builds | Edits | Functions | Code | Definitions | Proofs |", "|---|" + 8 * "---|"]
+    lines += ["", "| Crate | Proof | Tests | Builds | Functions | Code | Definitions | Proofs |", "|---|" + 7 * "---|"]
     page = crates.text_of(PAGE)
     before, _, rest = page.partition(MARKS[0])
     behind = rest.partition(MARKS[1])[2]
