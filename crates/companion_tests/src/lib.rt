@@ -22,3 +22,5 @@ mod programs;
 mod records;
 #[cfg(test)]
 mod rows;
+#[cfg(test)]
+mod searches;

@@ -1,7 +1,7 @@
 ghost use Rattle.std.specs.Prelude.{◌≡◌, ℕ, ◌+◌, ◌%◌, ◌<◌, ◌≤◌, Some, None, cond, nat_eq, nat_le, nat_lt};
-ghost use Rattle.state_search.specs.Counting.{counted, tell_apart, agree};
+ghost use Rattle.companion_tests.specs.Counting.{counted, tell_apart, agree};
 
-use super::*;
+use state_search::{Labels, Moves, Outcome, Property, Unwatched, all_labels, find_witness, search};
 use std::alloc::{AllocError, Global};
 use std::test::Fail;
 
