@@ -1,5 +1,5 @@
 -- The pieces of words have exactly these words, and stand apart.
-use Rattle.std.proofs.Common.{◌≡◌, ◌∙◌, sym, ap, subst, ℕ, zero, suc, ◌+◌, ◌*◌, ◌/◌, ◌%◌, ◌^◌, ◌<◌, ◌≤◌, ◌==◌, Bool, true, false, ◌&&◌, ◌||◌, not, nat_lt, List, [], ◌∷◌, ◌++◌}
+use Rattle.std.proofs.Common.{◌≡◌, ◌∙◌, sym, ap, subst, ℕ, zero, suc, ◌+◌, ◌-◌, ◌*◌, ◌/◌, ◌%◌, ◌^◌, ◌<◌, ◌≤◌, ◌==◌, Bool, true, false, ◌&&◌, ◌||◌, not, nat_lt, List, [], ◌∷◌, ◌++◌}
 use Rattle.std.proofs.Common.{lit<, length, map, refl, arith, if◌then◌else◌}
 use Rattle.std.specs.Prelude.{flat_map, replicate, slice_index}
 use Rattle.std.specs.List.{list_all}
@@ -14,7 +14,7 @@ use Rattle.mac_source.specs.declared.pieces.Piece.TheVariants as pieces
 use Rattle.mac_source.specs.Notes.{ascii_text}
 use Rattle.mac_source.specs.Pieces.{is_text_character, before_zero, text_in, reads_as_text, is_full, is_end, text_words_from, text_count, text_words}
 use Rattle.mac_source.specs.Pieces.{first, place, count, behind, words_in, is_zeros, is_next, alone, joins_zeros, ends_text, joins_text, text_of}
-use Rattle.mac_source.specs.Pieces.{text_if, zeros_if, join_if, with_word, pieces_of, ArePlaced}
+use Rattle.mac_source.specs.Pieces.{zeros_at, rest_before, text_if, zeros_if, join_if, with_word, pieces_of, ArePlaced}
 use Rattle.mac_source.specs.Sources.{has_word}
 use Rattle.mac_source.proofs.PlacedWords.{AreWords}
 
@@ -219,36 +219,40 @@ zeros_joined marked x p h zero_word zeros =
       is = λ piece most. (omega arith, omega (arith, most, next));
     }
 
-end_size : (p : Piece) → ends_text p ≡ true → count p ≡ text_count (text_of p)
-end_size (pieces.Word a w) h =
-    let short : length (text_in w) < 5 = (ends w h).short in
-    omega (arith, short)
-end_size (pieces.Zeros a n) h = absurd (cc)
-end_size (pieces.Text a text) h = refl
+-- a piece that is the end of a text
+record IsEnd (p : Piece) : Type 0 where
+  size : count p ≡ text_count (text_of p)
+  words : words_in p ≡ at_addresses (place p) (text_words (text_of p))
+  characters : IsPiece p → list_all is_text_character (text_of p) ≡ true
 
-end_words : (p : Piece) → ends_text p ≡ true → words_in p ≡ at_addresses (place p) (text_words (text_of p))
-end_words (pieces.Word a w) h =
+word_end : (a w : ℕ) → is_end w ≡ true → IsEnd (pieces.Word a w)
+word_end a w h =
     let e = ends w h in
-    ap (at_addresses a) (sym (short_words (text_in w) w e.short e.reads.back))
-end_words (pieces.Zeros a n) h = absurd (cc)
-end_words (pieces.Text a text) h = refl
+    let short : length (text_in w) < 5 = e.short in
+    record {
+      size = omega (arith, short);
+      words = ap (at_addresses a) (sym (short_words (text_in w) w e.short e.reads.back));
+      characters = λ is. e.reads.characters;
+    }
 
-end_characters : (p : Piece) → ends_text p ≡ true → IsPiece p → list_all is_text_character (text_of p) ≡ true
-end_characters (pieces.Word a w) h is = (ends w h).reads.characters
-end_characters (pieces.Zeros a n) h is = refl
-end_characters (pieces.Text a text) h is = is.0
+text_end : (a : ℕ) (text : List ℕ) → IsEnd (pieces.Text a text)
+text_end a text = record { size = refl; words = refl; characters = λ is. is.0 }
+
+zero_ends : is_end 0 ≡ true
+unfolding ascii_word
+zero_ends = refl
 
 word_first : (a w : ℕ) (ws : List ℕ) → at_addresses a (w ∷ ws) ≡ (a, w) ∷ at_addresses (a + 1) ws
 word_first a w ws = refl
 
-text_joined : (marked : ℕ → Bool) (x : ℕ × ℕ) (p : Piece) → is_next marked x p ≡ true → is_full x.1 ≡ true → ends_text p ≡ true
+text_joined : (marked : ℕ → Bool) (x : ℕ × ℕ) (p : Piece) → is_next marked x p ≡ true → is_full x.1 ≡ true → IsEnd p
     → IsJoined marked x p (pieces.Text x.0 (ascii_text x.1 ++ text_of p))
 text_joined marked x p h full end =
     let n = next_at marked x p h in
     let next : place p ≡ x.0 + 1 = n.0 in
     let f = fills x.1 full in
     let size : text_count (ascii_text x.1 ++ text_of p) ≡ count p + 1 =
-    full_count x.1 (text_of p) ∙ ap (λ k. k + 1) (sym (end_size p end)) in
+    full_count x.1 (text_of p) ∙ ap (λ k. k + 1) (sym end.size) in
     record {
       next = next;
       bare = n.1;
@@ -257,20 +261,102 @@ text_joined marked x p h full end =
       words =
           ap (at_addresses x.0) (full_words x.1 (text_of p) f)
           ∙ (word_first x.0 x.1 (text_words (text_of p))
-          ∙ (ap (λ a. x ∷ at_addresses a (text_words (text_of p))) (sym next) ∙ ap (λ l. x ∷ l) (sym (end_words p end))));
+          ∙ (ap (λ a. x ∷ at_addresses a (text_words (text_of p))) (sym next) ∙ ap (λ l. x ∷ l) (sym end.words)));
       is = λ piece most. (
-        list_all-append is_text_character (ascii_text x.1) (text_of p) ∙ rw (f.characters, end_characters p end piece) refl,
+        list_all-append is_text_character (ascii_text x.1) (text_of p) ∙ rw (f.characters, end.characters piece) refl,
         omega (arith, most, next, size),
       );
     }
 
--- a word before a piece is alone, or joins it
+-- words of 0 as a piece
+record IsRun (a n : ℕ) (z : Piece) : Type 0 where
+  at : place z ≡ a
+  size : count z ≡ n
+  words : words_in z ≡ at_addresses a (replicate n 0)
+  is : 0 < n → a + n ≤ 2 ^ 18 → IsPiece z
+
+run_if : (a n : ℕ) (b : Bool) → (n == 1) ≡ b → IsRun a n (if b then pieces.Word a 0 else pieces.Zeros a n)
+run_if a n true e =
+    let one : n ≡ 1 = same_number n 1 e in
+    record {
+      at = refl;
+      size = sym one;
+      words = ap (λ k. at_addresses a (replicate k 0)) (sym one);
+      is = λ some most. lit< tt;
+    }
+run_if a n false e = record { at = refl; size = refl; words = refl; is = λ some most. (some, most) }
+
+-- words of 0 in two: the first, and those behind it
+record IsCut (p z : Piece) : Type 0 where
+  at : place z ≡ place p + 1
+  some : 0 < count z
+  size : count p ≡ count z + 1
+  words : words_in p ≡ (place p, 0) ∷ words_in z
+  is : IsPiece p → IsPiece z
+
+zeros_cut : (a n : ℕ) → 1 < n → IsCut (pieces.Zeros a n) (zeros_at (a + 1) (n - 1))
+zeros_cut a n more =
+    let k = n - 1 in
+    let r = run_if (a + 1) k (k == 1) refl in
+    let size : count (zeros_at (a + 1) k) ≡ k = r.size in
+    let e : n ≡ k + 1 = omega (arith, more) in
+    record {
+      at = r.at;
+      some = omega (arith, more, size);
+      size = omega (arith, more, size);
+      words = ap (λ i. at_addresses a (replicate i 0)) e ∙ (zero_more a k ∙ ap (λ l. (a, 0) ∷ l) (sym r.words));
+      is = λ piece. r.is (omega (arith, more)) (omega (arith, more, piece.1));
+    }
+
+-- five characters before words of 0
+zeros_joined_text : (marked : ℕ → Bool) (x : ℕ × ℕ) (a n : ℕ) → is_next marked x (pieces.Zeros a n) ≡ true → is_full x.1 ≡ true
+    → IsJoined marked x (pieces.Word a 0) (pieces.Text x.0 (ascii_text x.1 ++ []))
+zeros_joined_text marked x a n next full = text_joined marked x (pieces.Word a 0) next full (word_end a 0 zero_ends)
+
+one_joined : (marked : ℕ → Bool) (x : ℕ × ℕ) (a n : ℕ) (t : Piece) → n ≡ 1 → IsJoined marked x (pieces.Word a 0) t
+    → IsJoined marked x (pieces.Zeros a n) t
+one_joined marked x a n t one j =
+    let size : count t ≡ 1 + 1 = j.size in
+    record {
+      next = j.next;
+      bare = j.bare;
+      at = j.at;
+      size = omega (arith, size, one);
+      words = j.words ∙ ap (λ k. x ∷ at_addresses a (replicate k 0)) (sym one);
+      is = λ piece most. j.is (lit< tt) (omega (arith, most, one));
+    }
+
+-- five characters before the end of a text, which they join
+module _ (marked : ℕ → Bool) (x : ℕ × ℕ) (ps : List Piece) (P : List Piece → Type 0) (full : is_full x.1 ≡ true) where
+  rest_case : (a n : ℕ) (b : Bool) → nat_lt 1 n ≡ b → nat_lt 0 n ≡ true → is_next marked x (pieces.Zeros a n) ≡ true
+      → ((t : Piece) → IsJoined marked x (pieces.Zeros a n) t → P (t ∷ ps))
+      → ((t z : Piece) → IsCut (pieces.Zeros a n) z → IsJoined marked x (pieces.Word a 0) t → P (t ∷ z ∷ ps))
+      → P (pieces.Text x.0 (ascii_text x.1 ++ []) ∷ (if b then zeros_at (a + 1) (n - 1) ∷ ps else ps))
+  rest_case a n true e some next more cut =
+      cut (pieces.Text x.0 (ascii_text x.1 ++ [])) (zeros_at (a + 1) (n - 1)) (zeros_cut a n (below_number 1 n e))
+      (zeros_joined_text marked x a n next full)
+  rest_case a n false e some next more cut =
+      let one : n ≡ 1 = grind (arith, nat_tests) in
+      more (pieces.Text x.0 (ascii_text x.1 ++ []))
+      (one_joined marked x a n (pieces.Text x.0 (ascii_text x.1 ++ [])) one (zeros_joined_text marked x a n next full))
+
+  end_case : (p : Piece) → ends_text p ≡ true → is_next marked x p ≡ true → ((t : Piece) → IsJoined marked x p t → P (t ∷ ps))
+      → ((t z : Piece) → IsCut p z → IsJoined marked x (pieces.Word (place p) 0) t → P (t ∷ z ∷ ps))
+      → P (pieces.Text x.0 (ascii_text x.1 ++ text_of p) ∷ rest_before p ps)
+  end_case (pieces.Word a w) end next more cut =
+      more (pieces.Text x.0 (ascii_text x.1 ++ text_in w)) (text_joined marked x (pieces.Word a w) next full (word_end a w end))
+  end_case (pieces.Zeros a n) end next more cut = rest_case a n (nat_lt 1 n) refl end next more cut
+  end_case (pieces.Text a text) end next more cut =
+      more (pieces.Text x.0 (ascii_text x.1 ++ text)) (text_joined marked x (pieces.Text a text) next full (text_end a text))
+
+-- a word before a piece is alone, or joins it, or joins the first of its words of 0
 module _ (marked : ℕ → Bool) (blocks texts : Bool) (x : ℕ × ℕ) (p : Piece) (ps : List Piece) (P : List Piece → Type 0)
-    (one : (s : Piece) → IsAlone x s → P (s ∷ p ∷ ps)) (more : (n : Piece) → IsJoined marked x p n → P (n ∷ ps)) where
+    (one : (s : Piece) → IsAlone x s → P (s ∷ p ∷ ps)) (more : (n : Piece) → IsJoined marked x p n → P (n ∷ ps))
+    (cut : (n z : Piece) → IsCut p z → IsJoined marked x (pieces.Word (place p) 0) n → P (n ∷ z ∷ ps)) where
   text_case : (b : Bool) → joins_text texts x p ≡ b → is_next marked x p ≡ true → P (text_if b texts x p ps)
   text_case true e next =
       let t = text_parts texts x p e in
-      more (pieces.Text x.0 (ascii_text x.1 ++ text_of p)) (text_joined marked x p next t.0 t.1)
+      end_case marked x ps P t.0 p t.1 next more cut
   text_case false e next = one (alone texts x) (alone_is texts x)
 
   zeros_case : (b : Bool) → joins_zeros blocks x p ≡ b → is_next marked x p ≡ true → P (zeros_if b texts x p ps)
@@ -309,12 +395,24 @@ joined_pieces marked x p n ps least j low high h =
     let ends : place p + count p ≡ place n + count n = omega (arith, at, next, size) in
     (omega (arith, at), omega (arith, at, high), j.is h.2 (behind_below p h.2 h.1), subst (λ (k : ℕ). ArePieces k ps) ends h.3)
 
+cut_pieces : (p z : Piece) (ps : List Piece) (least : ℕ) → IsCut p z → ArePieces least (p ∷ ps)
+    → ArePieces least (pieces.Word (place p) 0 ∷ z ∷ ps)
+cut_pieces p z ps least c h =
+    let at : place z ≡ place p + 1 = c.at in
+    let some : 0 < count z = c.some in
+    let size : count p ≡ count z + 1 = c.size in
+    let most : place p + count p ≤ 2 ^ 18 = behind_below p h.2 h.1 in
+    let ends : place p + count p ≡ place z + count z = omega (arith, at, size) in
+    let high : place z < 2 ^ 18 = omega (arith, at, some, size, most) in
+    (h.0, h.1, lit< tt, (omega (arith, at), high, c.is h.2, subst (λ (k : ℕ). ArePieces k ps) ends h.3))
+
 with_pieces : (blocks texts : Bool) (marked : ℕ → Bool) (x : ℕ × ℕ) (ps : List Piece) (least : ℕ) → least ≤ x.0 → x.0 < 2 ^ 18 → x.1 < 2 ^ 36
     → ArePieces (x.0 + 1) ps → ArePieces least (with_word blocks texts marked x ps)
 with_pieces blocks texts marked x [] least low high fits h = alone_pieces x (alone texts x) [] least (alone_is texts x) low high fits h
 with_pieces blocks texts marked x (p ∷ ps) least low high fits h =
     by_step marked blocks texts x p ps (λ new. ArePieces least new) (λ s a. alone_pieces x s (p ∷ ps) least a low high fits h)
     (λ n j. joined_pieces marked x p n ps least j low high h)
+    (λ n z c j. joined_pieces marked x (pieces.Word (place p) 0) n (z ∷ ps) least j low high (cut_pieces p z ps (x.0 + 1) c h))
 
 pub are_pieces : (blocks texts : Bool) (marked : ℕ → Bool) (least : ℕ) (xs : List (ℕ × ℕ)) → AreWords least xs
     → ArePieces least (pieces_of blocks texts marked xs)
@@ -331,6 +429,7 @@ with_words blocks texts marked x [] = ap (λ l. l ++ []) (alone_is texts x).word
 with_words blocks texts marked x (p ∷ ps) =
     by_step marked blocks texts x p ps (λ new. flat_map words_in new ≡ x ∷ flat_map words_in (p ∷ ps))
     (λ s a. ap (λ l. l ++ flat_map words_in (p ∷ ps)) a.words) (λ n j. ap (λ l. l ++ flat_map words_in ps) j.words)
+    (λ n z c j. ap (λ l. l ++ flat_map words_in (z ∷ ps)) j.words ∙ ap (λ l. x ∷ (l ++ flat_map words_in ps)) (sym c.words))
 
 pub pieces_words : (blocks texts : Bool) (marked : ℕ → Bool) (xs : List (ℕ × ℕ)) → flat_map words_in (pieces_of blocks texts marked xs) ≡ xs
 unfolding pieces_of
@@ -381,6 +480,11 @@ drop_middle true b c e h = refl
 drop_middle false false c e h = h
 drop_middle false true c e h = absurd (cc)
 
+add_middle : (a b c : Bool) → (a || c) ≡ true → (a || (b || c)) ≡ true
+add_middle true b c h = refl
+add_middle false true c h = refl
+add_middle false false c h = h
+
 with_heads : (blocks texts : Bool) (marked : ℕ → Bool) (q : ℕ) (x : ℕ × ℕ) (ps : List Piece) → marked q ≡ true
     → (x.0 == q || has_word (heads ps) q) ≡ true → has_word (heads (with_word blocks texts marked x ps)) q ≡ true
 with_heads blocks texts marked q x [] m h = ap (λ a. a == q || false) (alone_is texts x).at ∙ h
@@ -389,6 +493,9 @@ with_heads blocks texts marked q x (p ∷ ps) m h =
     (λ s a. ap (λ k. k == q || has_word (heads (p ∷ ps)) q) a.at ∙ h)
     (λ n j. ap (λ k. k == q || has_word (heads ps) q) j.at
     ∙ drop_middle (x.0 == q) (place p == q) (has_word (heads ps) q) (other_label marked q (place p) (place p == q) refl m j.bare) h)
+    (λ n z c j. ap (λ k. k == q || (place z == q || has_word (heads ps) q)) j.at
+    ∙ add_middle (x.0 == q) (place z == q) (has_word (heads ps) q)
+    (drop_middle (x.0 == q) (place p == q) (has_word (heads ps) q) (other_label marked q (place p) (place p == q) refl m j.bare) h))
 
 or_later : (a b c : Bool) → (b ≡ true → c ≡ true) → (a || b) ≡ true → (a || c) ≡ true
 or_later true b c f h = refl
@@ -419,11 +526,23 @@ joined_placed marked x p n ps j high h =
     let most : place p + count p ≤ 2 ^ 18 = h.0.1 in
     ((omega (arith, at, high), omega (arith, at, next, size, most)), h.1)
 
+cut_placed : (p z : Piece) (ps : List Piece) → IsCut p z → ArePlaced (p ∷ ps) → ArePlaced (pieces.Word (place p) 0 ∷ z ∷ ps)
+cut_placed p z ps c h =
+    let at : place z ≡ place p + 1 = c.at in
+    let some : 0 < count z = c.some in
+    let size : count p ≡ count z + 1 = c.size in
+    let most : place p + count p ≤ 2 ^ 18 = h.0.1 in
+    let next : place p + 1 ≤ 2 ^ 18 = omega (arith, size, most) in
+    let high : place z < 2 ^ 18 = omega (arith, at, some, size, most) in
+    let last : place z + count z ≤ 2 ^ 18 = omega (arith, at, size, most) in
+    ((h.0.0, next), ((high, last), h.1))
+
 with_placed : (blocks texts : Bool) (marked : ℕ → Bool) (x : ℕ × ℕ) (ps : List Piece) → x.0 < 2 ^ 18 → ArePlaced ps
     → ArePlaced (with_word blocks texts marked x ps)
 with_placed blocks texts marked x [] high h = alone_placed x (alone texts x) [] (alone_is texts x) high h
 with_placed blocks texts marked x (p ∷ ps) high h =
     by_step marked blocks texts x p ps ArePlaced (λ s a. alone_placed x s (p ∷ ps) a high h) (λ n j. joined_placed marked x p n ps j high h)
+    (λ n z c j. joined_placed marked x (pieces.Word (place p) 0) n (z ∷ ps) j high (cut_placed p z ps c h))
 
 pub are_placed : (blocks texts : Bool) (marked : ℕ → Bool) (least : ℕ) (xs : List (ℕ × ℕ)) → Rises least xs
     → ArePlaced (pieces_of blocks texts marked xs)

@@ -10,7 +10,7 @@ use Rattle.std.proofs.lemmas.Bool.Decides.{nat_tests}
 use Rattle.mac_source.specs.declared.pieces.Piece.{Piece}
 use Rattle.image_files.specs.Images.{Rises}
 use Rattle.mac_source.proofs.PieceLemmas.{are_placed}
-use Rattle.mac_source.specs.Pieces.{count, is_next, alone, joins_zeros, joins_text, text_of, text_if, zeros_if, join_if, with_word, pieces_of, IsPlaced, ArePlaced}
+use Rattle.mac_source.specs.Pieces.{count, is_next, alone, joins_zeros, joins_text, text_of, rest_before, text_if, zeros_if, join_if, with_word, pieces_of, IsPlaced, ArePlaced}
 
 no_words : (b : Bool) (xs : List (ℕ × ℕ)) → b ≡ (length xs == 0) → b ≡ true → xs ≡ []
 no_words b [] e h = refl
@@ -78,14 +78,14 @@ not_both : (n z : Bool) → n ≡ true → (n && z) ≡ false → z ≡ false
 not_both true z e h = h
 not_both false z e h = absurd (cc)
 
-pub step_text : (blocks texts : Bool) (marked : ℕ → Bool) (x : ℕ × ℕ) (p next : Piece) (ps : List Piece) (a b : Bool)
+pub step_text : (blocks texts : Bool) (marked : ℕ → Bool) (x : ℕ × ℕ) (p next : Piece) (ps rest : List Piece) (a b : Bool)
     → a ≡ (is_next marked x p && joins_zeros blocks x p) → a ≡ false → b ≡ (is_next marked x p && joins_text texts x p) → b ≡ true
-    → next ≡ pieces.Text x.0 (ascii_text x.1 ++ text_of p)
-    → next ∷ ps ≡ with_word blocks texts marked x (p ∷ ps)
-step_text blocks texts marked x p next ps a b d g e h is =
+    → next ≡ pieces.Text x.0 (ascii_text x.1 ++ text_of p) → rest ≡ rest_before p ps
+    → next ∷ rest ≡ with_word blocks texts marked x (p ∷ ps)
+step_text blocks texts marked x p next ps rest a b d g e h is left =
     let both = and_parts (is_next marked x p) (joins_text texts x p) (sym e ∙ h) in
     let none = not_both (is_next marked x p) (joins_zeros blocks x p) both.0 (sym d ∙ g) in
-    ap (λ n. n ∷ ps) is
+    ap (λ n. n ∷ rest) is ∙ ap (λ l. pieces.Text x.0 (ascii_text x.1 ++ text_of p) ∷ l) left
     ∙ sym (ap (λ t. join_if t blocks texts x p ps) both.0
     ∙ (ap (λ t. zeros_if t texts x p ps) none ∙ ap (λ t. text_if t texts x p ps) both.1))
 

@@ -1,5 +1,5 @@
 -- The pieces of an image that stand on a line each (this project's profile).
-use Rattle.std.specs.Prelude.{ℕ, zero, suc, ◌+◌, ◌*◌, ◌/◌, ◌^◌, ◌<◌, ◌≤◌, Bool, true, false, not, ◌==◌, ◌&&◌, nat_le, nat_lt}
+use Rattle.std.specs.Prelude.{ℕ, zero, suc, ◌+◌, ◌-◌, ◌*◌, ◌/◌, ◌^◌, ◌<◌, ◌≤◌, Bool, true, false, not, ◌==◌, ◌&&◌, nat_le, nat_lt}
 use Rattle.std.specs.Prelude.{List, [], ◌∷◌, ◌++◌, length, replicate, if◌then◌else◌}
 use Rattle.std.specs.List.{list_all}
 use Rattle.mac_asm.specs.Assembly.{at_addresses}
@@ -92,10 +92,10 @@ alone texts x =
 abbrev pub joins_zeros : Bool → ℕ × ℕ → Piece → Bool
 joins_zeros blocks x p = blocks && (x.1 == 0 && is_zeros p)
 
--- five characters are in one piece with a text, and with a word that ends one
+-- five characters are in one piece with a text, with a word that ends one, and with the first of some words of 0
 abbrev pub ends_text : Piece → Bool
 ends_text (variants.Word a w) = is_end w
-ends_text (variants.Zeros a n) = false
+ends_text (variants.Zeros a n) = nat_lt 0 n
 ends_text (variants.Text a text) = true
 
 abbrev pub joins_text : Bool → ℕ × ℕ → Piece → Bool
@@ -107,8 +107,18 @@ text_of (variants.Word a w) = text_in w
 text_of (variants.Zeros a n) = []
 text_of (variants.Text a text) = text
 
+-- so many words of 0, of which one alone is a word
+abbrev pub zeros_at : ℕ → ℕ → Piece
+zeros_at a n = if n == 1 then variants.Word a 0 else variants.Zeros a n
+
+-- the words of 0 behind the first, which ends a text, stand before the pieces behind them
+abbrev pub rest_before : Piece → List Piece → List Piece
+rest_before (variants.Word a w) ps = ps
+rest_before (variants.Zeros a n) ps = if nat_lt 1 n then zeros_at (a + 1) (n - 1) ∷ ps else ps
+rest_before (variants.Text a text) ps = ps
+
 abbrev pub text_if : Bool → Bool → ℕ × ℕ → Piece → List Piece → List Piece
-text_if true texts x p ps = variants.Text x.0 (ascii_text x.1 ++ text_of p) ∷ ps
+text_if true texts x p ps = variants.Text x.0 (ascii_text x.1 ++ text_of p) ∷ rest_before p ps
 text_if false texts x p ps = alone texts x ∷ p ∷ ps
 
 abbrev pub zeros_if : Bool → Bool → ℕ × ℕ → Piece → List Piece → List Piece

@@ -1,8 +1,8 @@
 //! The pieces of an image that stand on a line each: words, and words of 0 one behind the other.
-ghost use Rattle.std.specs.Prelude.{◌≡◌, ◌<◌, ◌≤◌, ◌^◌, ◌+◌, ◌∷◌, ◌==◌, ◌&&◌, IfOk, length, not, reverse};
+ghost use Rattle.std.specs.Prelude.{◌≡◌, ◌<◌, ◌≤◌, ◌^◌, ◌+◌, ◌∷◌, ◌==◌, ◌&&◌, IfOk, OnOk, length, not, reverse};
 ghost use Rattle.image_files.specs.Images.{Rises};
 ghost use Rattle.mac_source.specs.Pieces.{IsPlaced, alone, count, ends_text, first, is_next};
-ghost use Rattle.mac_source.specs.Pieces.{is_zeros, joins_text, joins_zeros, pieces_of, place, text_of, with_word};
+ghost use Rattle.mac_source.specs.Pieces.{is_zeros, joins_text, joins_zeros, pieces_of, place, rest_before, text_of, with_word, zeros_at};
 ghost use Rattle.mac_source.specs.Marks.{marked_by};
 
 use crate::characters::{Characters, characters_in, is_end, is_full, is_text_alone, packed};
@@ -94,7 +94,7 @@ fn ends_text(piece: &Piece) -> bool
 {
     match piece {
         Piece::Word(_, word) => is_end(*word),
-        Piece::Zeros(_, _) => false,
+        Piece::Zeros(_, count) => *count > 0,
         Piece::Text(_, _) => true,
     }
 }
@@ -130,6 +130,30 @@ fn text_of(alloc: Global, piece: Piece) -> Result<Characters, AllocError>
     }
 }
 
+/// The piece of so many words of 0.
+fn zeros_at(address: u32, count: u32) -> Piece
+    ensures { result ≡ zeros_at address count }
+{
+    if count == 1 {
+        Piece::Word(address, Word::join(0, 0))
+    } else {
+        Piece::Zeros(address, count)
+    }
+}
+
+/// Adds the words of 0 behind the one that ends a text.
+fn push_rest(pieces: &mut Vec<Piece>, piece: &Piece) -> Result<(), AllocError>
+    requires { IsPlaced piece.now }
+    ensures { OnOk result (reverse pieces.new.items ≡ rest_before piece.now (reverse pieces.old.items)) }
+{
+    if let Piece::Zeros(address, count) = piece {
+        if *count > 1 {
+            pieces.push(zeros_at(*address + 1, *count - 1))?;
+        }
+    }
+    Ok(())
+}
+
 /// Goes from the piece in hand to a word before it: adds the piece, unless the word joins it, and
 /// gives the piece of the word.
 fn step(
@@ -151,6 +175,7 @@ fn step(
         return Ok(Piece::Zeros(address, count(&hand) + 1));
     }
     if goes_with_text(marks, shown.texts, &hand, address, word) {
+        push_rest(pieces, &hand)?;
         let mut text = text_of(alloc, hand)?;
         text.put_before(word)?;
         return Ok(Piece::Text(address, text));

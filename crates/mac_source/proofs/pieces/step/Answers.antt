@@ -16,10 +16,11 @@ returns-then-goes_with_zeros c =
 pub returns-then-goes_with_text : goal.returns-then-goes_with_text
 returns-then-goes_with_text c =
     step_text c.args.shown.blocks c.args.shown.texts (marked_by c.args.marks.now) (c.args.address, c.args.word) c.args.hand
-    (pieces.Text c.args.address c.put_before.new.self) (reverse c.args.pieces.now.items)
+    (pieces.Text c.args.address c.put_before.new.self) (reverse c.args.pieces.now.items) (reverse c.push_rest.new.pieces.items)
     c.goes_with_zeros.result c.goes_with_text.result c.goes_with_zeros.ensures c.if-goes_with_zeros.false
     c.goes_with_text.ensures c.if-goes_with_text.true
     (ap (pieces.Text c.args.address) (c.in_ok-put_before.ensures ∙ ap (λ t. ascii_text c.args.word ++ t) c.in_ok-text.ensures))
+    c.in_ok-push_rest.ensures
 
 pub returns : goal.returns
 returns c =
