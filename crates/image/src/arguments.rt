@@ -109,7 +109,9 @@ fn make_save<'a>(alloc: Global) -> Result<Command<'a>, AllocError> {
 
 /// `image list`.
 fn make_list<'a>(alloc: Global) -> Result<Command<'a>, AllocError> {
-    let list = Command::new(alloc, "list").about("Lists the words of a core image in octal");
+    let list = Command::new(alloc, "list").about(
+        "Lists the words of a core image in octal, and which operations and calls in it are not here",
+    );
     with_files(alloc, list.arg(make_form(alloc, "from", FROM))?)
 }
 

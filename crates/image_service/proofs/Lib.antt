@@ -1,1 +1,2 @@
-pub mod Back
+mod Back
+mod Refused

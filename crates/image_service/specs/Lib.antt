@@ -1,1 +1,2 @@
+pub mod NotHere
 pub mod Transcripts

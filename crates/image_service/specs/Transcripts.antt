@@ -18,10 +18,11 @@ use Rattle.image_files.specs.Packings.{packed}
 use Rattle.image_files.specs.Saves.{Loaded, save_of}
 use Rattle.image_files.specs.CoreImages.{image_in, words_in}
 use Rattle.image_files.specs.Fits.{packing_that_fits}
-use Rattle.asm_script.specs.Listings.{image_text, fault_text}
+use Rattle.word36.specs.Octal.{octal, word_text}
 use Rattle.script_io.specs.Transcripts.{Transcript, closed}
 use Rattle.image_service.specs.declared.endings.Ending.{Ending}
 use Rattle.image_service.specs.declared.endings.Ending.TheVariants as endings
+use Rattle.image_service.specs.NotHere.{mark_text}
 
 -- ---- faults
 
@@ -82,9 +83,17 @@ repacked from to bytes = told_of wants.Words bytes (packed to) (words_in from by
 unfoldable pub sourced : Packing → Shown → List ℕ → Transcript Ending
 sourced from shown bytes = told_of wants.Image bytes (λ image. source_of shown (as_assembled image)) (image_in from bytes)
 
--- `image list`: the words of a core image by rising address, and its start
+-- `AAAAAA LLLLLL,,RRRRRR`, an address and its word, and what is said of an operation or a call that is not here
+abbrev pub listed_line : ℕ × ℕ → List ℕ
+listed_line at = octal 6 at.0 ++ codes " " ++ word_text at.1 ++ mark_text at.1 ++ codes "\n"
+
+-- the words by rising address, and `START AAAAAA`
+abbrev pub listed_text : Loaded → List ℕ
+listed_text image = flat_map listed_line image.words ++ codes "START " ++ octal 6 image.start ++ codes "\n"
+
+-- `image list`
 unfoldable pub listed : Packing → List ℕ → Transcript Ending
-listed from bytes = told_of wants.Image bytes (λ image. image_text (as_assembled image)) (image_in from bytes)
+listed from bytes = told_of wants.Image bytes listed_text (image_in from bytes)
 
 -- an image that was assembled, or what is wrong with its source
 abbrev pub assembled_or : Result Assembled Fault → Result Loaded Ending

@@ -1,12 +1,12 @@
 //! `image list`: the words of a core image, as text.
 ghost use Rattle.std.specs.Prelude.{◌≡◌, ◌≤◌, ◌^◌, ◌++◌, false, IfErr, OnOk};
 ghost use Rattle.std.specs.List.{flat_map};
-ghost use Rattle.asm_script.specs.Listings.{word_line, image_text};
 ghost use Rattle.script_io.specs.Serves.{Serves, Blames};
-ghost use Rattle.image_service.specs.Transcripts.{listed};
+ghost use Rattle.image_service.specs.Transcripts.{listed, listed_line, listed_text};
 
 use crate::endings::Ending;
 use crate::faults::refuse;
+use crate::not_here::mark_text;
 use image_files::{ImageError, Packing, Wanted, read_image};
 use script_io::{
     ByteIn, ByteOut, ServeFailure, TextService, TextSession, push_word, serve_session,
@@ -14,21 +14,22 @@ use script_io::{
 use std::alloc::{AllocError, Global};
 use word36::{Image, Word, octal_digits};
 
-/// Adds a line of an address and its word.
+/// Adds a line of an address and its word, and what is said of one that is not here.
 #[tactic(auto, using(std::proofs::Common::append_assoc))]
 fn push_word_line(out: &mut Vec<u8>, address: u32, word: Word) -> Result<(), AllocError>
-    ensures { OnOk result (out.new.items ≡ out.old.items ++ word_line (address, word)) }
+    ensures { OnOk result (out.new.items ≡ out.old.items ++ listed_line (address, word)) }
 {
     out.extend_from_slice(&octal_digits::<6>(u64::from(address)))?;
     out.push(b' ')?;
     push_word(out, word)?;
+    out.extend_from_slice(mark_text(word))?;
     out.push(b'\n')?;
     Ok(())
 }
 
 /// Adds the lines of words with their addresses.
 fn push_words(out: &mut Vec<u8>, words: &[(u32, Word)]) -> Result<(), AllocError>
-    ensures { OnOk result (out.new.items ≡ out.old.items ++ flat_map word_line words.now) }
+    ensures { OnOk result (out.new.items ≡ out.old.items ++ flat_map listed_line words.now) }
 {
     for word in words {
         push_word_line(out, word.0, word.1)?;
@@ -40,7 +41,7 @@ fn push_words(out: &mut Vec<u8>, words: &[(u32, Word)]) -> Result<(), AllocError
 #[tactic(auto, using(std::proofs::Common::append_assoc))]
 fn push_image(out: &mut Vec<u8>, image: &Image) -> Result<(), AllocError>
     ensures { OnOk result (out.new.items ≡
-        out.old.items ++ image_text (record { words = image.now.words.items; start = image.now.start })) }
+        out.old.items ++ listed_text (record { words = image.now.words.items; start = image.now.start })) }
 {
     push_words(out, image.words.as_slice())?;
     out.extend_from_slice(b"START ")?;
@@ -74,7 +75,8 @@ impl TextService for Lister {
     }
 }
 
-/// Serves the words of a core image by rising address, and its start, as `lockmon asm` lists them.
+/// Serves the words of a core image by rising address, and its start, as `lockmon asm` lists them, and behind each operation
+/// and call of a user's program that is not here, that it is not.
 pub fn serve_list<R: ByteIn, W: ByteOut>(
     alloc: Global,
     from: Packing,
