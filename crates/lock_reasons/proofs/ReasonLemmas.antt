@@ -4,9 +4,7 @@ use Rattle.std.proofs.Common.{Option, Some, None, option_map, is_some, length, f
 use Rattle.std.specs.List.{find, list_all, list_any}
 use Rattle.arrayvec.specs.ArrayVec.{ArrayVec}
 use Rattle.lock_queue.specs.declared.call.Asking.{Asking}
-use Rattle.lock_queue.specs.declared.call.LockCall.{LockCall}
-use Rattle.lock_queue.specs.declared.call.LockCall.TheVariants.{Enqueue, Modify, DequeueNamed, DequeueAll, DequeueId}
-use Rattle.lock_queue.specs.declared.call.LockReply.{LockReply}
+use Rattle.lock_queue.specs.declared.call.LockCall.TheVariants.{Enqueue, Modify, DequeueNamed}
 use Rattle.lock_queue.specs.declared.call.LockReply.TheVariants as reply
 use Rattle.lock_queue.specs.declared.refusal.Refusal.{Refusal}
 use Rattle.lock_queue.specs.declared.refusal.Refusal.TheVariants as refusal
@@ -15,9 +13,9 @@ use Rattle.lock_queue.specs.declared.request.EnqueueKind.TheVariants.{Blocking, 
 use Rattle.lock_queue.specs.declared.request.Request.{Request}
 use Rattle.lock_queue.specs.declared.want.Want.{Want}
 use Rattle.lock_queue.specs.Calls.{outcome_of}
-use Rattle.lock_queue.specs.Changes.{modify, modify_fault, some_lost, some_lost_behind, with_changes}
-use Rattle.lock_queue.specs.Dequeues.{dequeue_fault, dequeue_where, has_id, is_of_job}
-use Rattle.lock_queue.specs.Enqueues.{are_alike, arrival, enqueue_fault, enqueue_refusal, is_too_low, not_granted, request_of, some_too_low, with_arrival}
+use Rattle.lock_queue.specs.Changes.{modify_fault, some_lost_behind, with_changes}
+use Rattle.lock_queue.specs.Dequeues.{dequeue_fault, dequeue_where}
+use Rattle.lock_queue.specs.Enqueues.{are_alike, arrival, enqueue_fault, enqueue_refusal, is_too_low, not_granted, some_too_low, with_arrival}
 use Rattle.lock_queue.specs.Jobs.{is_blocking, is_interrupt}
 use Rattle.lock_queue.specs.Keys.{same_key}
 use Rattle.lock_queue.specs.Outcomes.{Outcome, outcome, unless_refused, refuse_if, or_else, first_refusal}
@@ -28,12 +26,12 @@ use Rattle.lock_reasons.specs.declared.meetings.Rule.{Rule}
 use Rattle.lock_reasons.specs.declared.meetings.Rule.TheVariants.{Differs, Names, Reaches, Pools}
 use Rattle.lock_reasons.specs.declared.reasons.Met.TheVariants.{Earlier, InQueue}
 use Rattle.lock_reasons.specs.declared.reasons.Reason.{Reason}
-use Rattle.lock_reasons.specs.declared.reasons.Reason.TheVariants.{Meets, NotPresent, NoRequest, NoRequestOf}
+use Rattle.lock_reasons.specs.declared.reasons.Reason.TheVariants.{Meets, NotPresent}
 use Rattle.lock_reasons.specs.declared.reasons.Reason.TheVariants.{NoVector, OverQuota, QueueFull, NotGranted, WouldLose}
 use Rattle.lock_reasons.specs.declared.faults.Check.TheVariants as check
 use Rattle.lock_reasons.specs.Meetings.{first_present, meets, or_later}
 use Rattle.lock_reasons.specs.Reasons.{by_earlier, by_present, change_fault, enqueue_reason, fault, first_fault, first_unfit, level_fault}
-use Rattle.lock_reasons.specs.Reasons.{lost_behind, modify_reason, or_reason, reason_if, reason_of, refusal_by, refusal_in, refusal_of}
+use Rattle.lock_reasons.specs.Reasons.{lost_behind, modify_reason, or_reason, reason_if, refusal_by, refusal_in, refusal_of}
 use Rattle.lock_reasons.specs.Reasons.{release_fault, request_fault}
 
 -- ---- tests
@@ -245,23 +243,24 @@ not-twice : (b : Bool) → not (not b) ≡ b
 not-twice true = refl
 not-twice false = refl
 
+-- a want does not fit exactly where not all fit
+pub unfit-found : (rs : List Request) (ws : List Want) → is_some (first_unfit rs ws) ≡ not (list_all (fits rs) ws)
+unfit-found rs ws = found (λ w. not (fits rs w)) ws ∙ any-not (fits rs) ws
+
 of_arrival : (rs : List Request) (job : ℕ) (asking : Asking) (wants : ArrayVec Want)
     → option_map refusal_in (cond (is_blocking asking.kind) None (option_map NotGranted (first_unfit rs wants.items)))
     ≡ refusal_of (arrival rs job asking wants).reply
 of_arrival rs job asking wants = go (list_all (fits rs) wants.items) refl
   where
-    unfit : is_some (first_unfit rs wants.items) ≡ not (list_all (fits rs) wants.items)
-    unfit = found (λ w. not (fits rs w)) wants.items ∙ any-not (fits rs) wants.items
-
     go : (b : Bool) → list_all (fits rs) wants.items ≡ b
         → option_map refusal_in (cond (is_blocking asking.kind) None (option_map NotGranted (first_unfit rs wants.items)))
         ≡ refusal_of (arrival rs job asking wants).reply
     go true h =
         sym (ap (λ o. refusal_of (Outcome.reply o)) (arrival_granted rs job asking wants h)
-        ∙ fits-all rs asking.kind (first_unfit rs wants.items) (unfit ∙ ap not h))
+        ∙ fits-all rs asking.kind (first_unfit rs wants.items) (unfit-found rs wants.items ∙ ap not h))
     go false h =
         sym (ap (λ o. refusal_of (Outcome.reply o)) (arrival_waiting rs job asking wants h)
-        ∙ stays rs (with_arrival rs job asking false wants) asking.kind (first_unfit rs wants.items) (unfit ∙ ap not h))
+        ∙ stays rs (with_arrival rs job asking false wants) asking.kind (first_unfit rs wants.items) (unfit-found rs wants.items ∙ ap not h))
 
 or-five : (a b c d e f : Option Refusal) → or_else (or_else a (or_else b (or_else c (or_else d e)))) f
     ≡ or_else a (or_else b (or_else c (or_else d (or_else e f))))

@@ -1,3 +1,4 @@
+pub mod Causes
 pub mod Meetings
 pub mod Reasons
 pub mod Ways

@@ -1,6 +1,6 @@
 -- How a want that is asked for meets another one (ENQ/DEQ of the TOPS-10 Monitor Calls Manual, in this project's
 -- profile).
-use Rattle.std.specs.Prelude.{ℕ, Bool, not, ◌&&◌, ◌++◌, List, [], ◌∷◌, Option, Some, None, map, nat_le}
+use Rattle.std.specs.Prelude.{Bool, not, ◌&&◌, List, [], ◌∷◌, Option, Some, None, nat_le}
 use Rattle.std.specs.List.{find}
 use Rattle.lock_queue.specs.declared.request.Request.{Request}
 use Rattle.lock_queue.specs.declared.want.Want.{Want}
