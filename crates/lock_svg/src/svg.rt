@@ -29,7 +29,7 @@ text{font:13px system-ui,-apple-system,'Segoe UI','DejaVu Sans',sans-serif;fill:
 .job{font-weight:600}
 .lock{font-family:ui-monospace,'DejaVu Sans Mono',monospace;font-size:12px;text-anchor:end}
 .amount{font-size:10px;fill:#fff}
-.amount.asked{fill:#24303d;font-weight:600}
+.amount.asked{fill:#24303d;font-weight:600;paint-order:stroke;stroke:#fff;stroke-width:3px}
 .line{fill:#fff}
 .line:hover{fill:#e3e7eb}
 .grid{stroke:#e3e7eb}
@@ -358,7 +358,7 @@ const LEGEND: &str =
 <path class=\"grant\" transform=\"translate(329 7)\" d=\"M0 -7L6 0L0 7L-6 0z\"/><text x=\"343\" y=\"12\">is granted</text>
 <path class=\"wait hard\" d=\"M0 33H28\"/><text x=\"36\" y=\"38\">waits for an owner</text>
 <path class=\"wait soft\" d=\"M176 33H204\"/><text x=\"212\" y=\"38\">waits for one that asked before</text>
-<path class=\"wait circle\" d=\"M424 33H452\"/><text x=\"460\" y=\"38\">waits in a circle</text>
+<path class=\"wait circle\" d=\"M434 33H462\"/><text x=\"470\" y=\"38\">waits in a circle</text>
 </g>
 ";
 
