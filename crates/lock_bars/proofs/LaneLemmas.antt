@@ -2,7 +2,7 @@
 use Rattle.std.proofs.Common.{◌≡◌, ◌<◌, ◌≤◌, ◌+◌, ◌-◌, ◌++◌, ◌∙◌, ℕ, suc, List, [], ◌∷◌, arith, sym, ap, append_assoc, append-nil}
 use Rattle.std.specs.List.{flat_map}
 use Rattle.lock_queue.specs.Waits.{jobs, numbers_from}
-use Rattle.lock_queue.specs.declared.key.Key.{Key}
+use Rattle.lock_bars.specs.Lanes.{Row}
 use Rattle.wait_graph.proofs.JobLemmas.{jobs-start}
 use Rattle.wait_graph.specs.declared.pairs.TheConstants.{NUMBERS}
 use Rattle.word36.specs.declared.sizes.TheConstants.{JOBS}
@@ -16,16 +16,16 @@ unfolding numbers_from
 rest_end j h = let e : NUMBERS - j ≡ 0 = omega arith in ap (numbers_from j) e
 
 -- the lanes of each job in turn
-pub lanes_start : (f : ℕ → List (ℕ × Key)) (sofar : List (ℕ × Key)) → sofar ≡ [] → sofar ++ flat_map f (numbers_from 1 JOBS) ≡ flat_map f jobs
+pub lanes_start : (f : ℕ → List Row) (sofar : List Row) → sofar ≡ [] → sofar ++ flat_map f (numbers_from 1 JOBS) ≡ flat_map f jobs
 lanes_start f sofar none = ap (λ l. l ++ flat_map f (numbers_from 1 JOBS)) none ∙ ap (flat_map f) jobs-start
 
-pub lanes_step : (f : ℕ → List (ℕ × Key)) (j : ℕ) (sofar new all : List (ℕ × Key)) → j < NUMBERS → new ≡ sofar ++ f j
+pub lanes_step : (f : ℕ → List Row) (j : ℕ) (sofar new all : List Row) → j < NUMBERS → new ≡ sofar ++ f j
     → sofar ++ flat_map f (numbers_from j (NUMBERS - j)) ≡ all → new ++ flat_map f (numbers_from (j + 1) (NUMBERS - (j + 1))) ≡ all
 lanes_step f j sofar new all within pushed before =
     ap (λ l. l ++ flat_map f (numbers_from (j + 1) (NUMBERS - (j + 1)))) pushed
     ∙ append_assoc sofar (f j) (flat_map f (numbers_from (j + 1) (NUMBERS - (j + 1))))
     ∙ ap (λ l. sofar ++ flat_map f l) (sym (rest_at j within)) ∙ before
 
-pub lanes_end : (f : ℕ → List (ℕ × Key)) (j : ℕ) (sofar all : List (ℕ × Key)) → NUMBERS ≤ j
+pub lanes_end : (f : ℕ → List Row) (j : ℕ) (sofar all : List Row) → NUMBERS ≤ j
     → sofar ++ flat_map f (numbers_from j (NUMBERS - j)) ≡ all → sofar ≡ all
 lanes_end f j sofar all end before = sym (append-nil sofar) ∙ ap (λ l. sofar ++ flat_map f l) (sym (rest_end j end)) ∙ before

@@ -3,7 +3,7 @@ ghost use Rattle.std.specs.Prelude.{◌≡◌, ◌==◌, ◌&&◌, ◌++◌, ◌
 ghost use Rattle.std.specs.List.{list_any};
 ghost use Rattle.lock_queue.specs.Keys.{same_key};
 ghost use Rattle.lock_bars.specs.Bars.{same_lane};
-ghost use Rattle.lock_bars.specs.Lanes.{begins_lane, lanes_of, locks_of, row_of};
+ghost use Rattle.lock_bars.specs.Lanes.{begins_lane, lanes_of, locks_of, row_for, row_of};
 
 use crate::bars::Bar;
 use crate::names::LockLabel;
@@ -47,7 +47,7 @@ fn begins_lane(earlier: &[Bar], bar: &Bar, job: u8) -> bool
 
 /// Adds a lane of a job.
 fn push_lane(alloc: Global, lanes: &mut Vec<Lane>, job: u8, key: &Key) -> Result<(), AllocError>
-    ensures { OnOk result (map row_of lanes.new.items ≡ map row_of lanes.old.items ++ (job, key.now) ∷ []) }
+    ensures { OnOk result (map row_of lanes.new.items ≡ map row_of lanes.old.items ++ row_for job key.now ∷ []) }
 {
     let name = LockLabel(key);
     let label = format!(in alloc; "{name}")?;
