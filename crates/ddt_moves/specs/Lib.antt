@@ -1,2 +1,3 @@
 pub mod RunStops
 pub mod Edits
+pub mod Replays

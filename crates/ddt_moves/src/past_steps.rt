@@ -1,22 +1,46 @@
 //! Searches in the steps that were made.
 
+ghost use Rattle.std.specs.Prelude.{◌≡◌, IfOk, not};
+ghost use Rattle.ddt_timeline.specs.Stops.{is_word};
+ghost use Rattle.ddt_timeline.specs.Views.{history};
+ghost use Rattle.ddt_moves.specs.Replays.{IsLastIn, changes, newer, stood};
+
 use crate::replays::Replay;
 use ddt_timeline::{Timeline, stands_at};
 use std::alloc::{AllocError, Global};
-use word36::Address;
+use word36::{Address, Word};
+
+/// A number in place of an earlier one, where something held.
+fn newer(holds: bool, steps: u64, last: Option<u64>) -> Option<u64>
+    ensures { result ≡ newer holds steps last }
+{
+    if holds { Some(steps) } else { last }
+}
+
+/// Whether a word is no longer what it was, or is gone, or there now.
+fn is_changed(was: Option<Word>, word: Option<Word>) -> bool
+    ensures { result ≡ not (is_word word was) }
+{
+    match (word, was) {
+        (Some(word), Some(was)) => word != was,
+        (None, None) => false,
+        _ => true,
+    }
+}
 
 /// How many steps were made before the last one before which a job stood at an address, and was not stopped; `None` where there
 /// is none.
-pub fn last_at(timeline: &Timeline, job: u8, address: Address) -> Result<Option<u64>, AllocError> {
+pub fn last_at(timeline: &Timeline, job: u8, address: Address) -> Result<Option<u64>, AllocError>
+    ensures { IfOk result (λ last. IsLastIn (stood job address) (history timeline.now) last) }
+{
     let mut replay = Replay::of(timeline)?;
     let mut last = None;
-    for _ in 0..u64::MAX {
-        if !replay.go_before_step() {
-            break;
-        }
-        if stands_at(replay.machine(), job, address) {
-            last = Some(replay.steps());
-        }
+    while replay.go_before_step() {
+        last = newer(
+            stands_at(replay.machine(), job, address),
+            replay.steps(),
+            last,
+        );
         replay.step();
     }
     replay.end();
@@ -24,18 +48,19 @@ pub fn last_at(timeline: &Timeline, job: u8, address: Address) -> Result<Option<
 }
 
 /// How many steps were made before the last one that changed the word of a job at an address; `None` where none did.
-pub fn last_write(timeline: &Timeline, job: u8, address: u32) -> Result<Option<u64>, AllocError> {
+pub fn last_write(timeline: &Timeline, job: u8, address: u32) -> Result<Option<u64>, AllocError>
+    ensures { IfOk result (λ last. IsLastIn (changes job address) (history timeline.now) last) }
+{
     let mut replay = Replay::of(timeline)?;
     let mut last = None;
-    for _ in 0..u64::MAX {
-        if !replay.go_before_step() {
-            break;
-        }
+    while replay.go_before_step() {
         let (steps, word) = (replay.steps(), replay.machine().peek(job, address));
         replay.step();
-        if replay.machine().peek(job, address) != word {
-            last = Some(steps);
-        }
+        last = newer(
+            is_changed(word, replay.machine().peek(job, address)),
+            steps,
+            last,
+        );
     }
     replay.end();
     Ok(last)
