@@ -2,14 +2,13 @@
 use Rattle.std.proofs.Common.{◌≡◌, ◌≤◌, ◌<◌, ◌∙◌, ◌+◌, ◌-◌, ◌^◌, ◌++◌, ◌⊎◌, inl, inr, sym, ap, subst, ℕ, zero, suc, Bool, true, false, cond, refl, arith}
 use Rattle.std.proofs.Common.{List, [], ◌∷◌, Option, Some, None, length, replicate, nat_lt, append_assoc, append-nil}
 use Rattle.std.specs.Prelude.{◌&&◌, min, IfSome}
-use Rattle.machine.specs.Machine.{after}
 use Rattle.ddt_timeline.specs.Stops.{round}
 use Rattle.std.proofs.lemmas.Bool.{false≢true, lt-ltb}
 use Rattle.machine.specs.Machine.{S, ticked}
 use Rattle.ddt_timeline.specs.declared.entries.Entry.{Entry}
 use Rattle.ddt_timeline.specs.declared.entries.Entry.TheVariants.{Rounds, Login, Start, Continue, Kill, Typed, Take, Ticks}
 use Rattle.ddt_timeline.specs.declared.entries.Entry.TheVariants.{Deposit, StartAt}
-use Rattle.ddt_timeline.specs.Histories.{one_step, things_in, things_of}
+use Rattle.ddt_timeline.specs.Histories.{one_step, things_of}
 use Rattle.ddt_timeline.specs.Timelines.{made, played, steps_in, steps_of, ticked_so_often}
 use Rattle.ddt_moves.specs.Replays.{HeldBefore, IsLastHeld, before_step, counted, from_step, is_at_step, newer}
 

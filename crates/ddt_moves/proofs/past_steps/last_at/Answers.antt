@@ -1,4 +1,4 @@
-use Rattle.std.proofs.Common.{◌≡◌, ◌∙◌, ◌+◌, ◌-◌, ◌^◌, sym, ap, true, false, ℕ}
+use Rattle.std.proofs.Common.{◌≡◌, ◌∙◌, ◌+◌, ◌-◌, ◌^◌, sym, ap, true, ℕ}
 use Rattle.std.specs.Prelude.{min}
 use Rattle.machine.specs.Machine.{S}
 use Rattle.ddt_moves.specs.Replays.{is_ready, machine_in, steps_made, stood, to_come}

@@ -1,4 +1,4 @@
-use Rattle.std.proofs.Common.{◌≡◌, ◌∙◌, ◌+◌, ◌-◌, ◌^◌, sym, ap, not, true, false, ℕ, Option}
+use Rattle.std.proofs.Common.{◌≡◌, ◌∙◌, ◌+◌, ◌-◌, ◌^◌, sym, ap, not, true, ℕ, Option}
 use Rattle.std.specs.Prelude.{min}
 use Rattle.machine.specs.Machine.{S}
 use Rattle.machine.specs.Views.{word_in}

@@ -1,4 +1,4 @@
-use Rattle.std.proofs.Common.{◌≡◌, ◌∙◌, sym, ap}
+use Rattle.std.proofs.Common.{◌∙◌, sym, ap}
 use Rattle.machine.specs.Machine.{S}
 use Rattle.ddt_moves.specs.Replays.{before_step}
 use Rattle.ddt_moves.proofs.ReplayLemmas.{before-event, from-event, no_steps}
