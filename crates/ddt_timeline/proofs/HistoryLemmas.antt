@@ -26,7 +26,7 @@ played-ticks : (n : ℕ) (s : S) → played (replicate n (Ticks 1)) s ≡ ticked
 played-ticks zero s = refl
 played-ticks (suc n) s = played-ticks n (ticked s).state ∙ ticks-first n s
 
-played-things_of : (e : Entry) (s : S) → played (things_of e) s ≡ made s e
+pub played-things_of : (e : Entry) (s : S) → played (things_of e) s ≡ made s e
 played-things_of (Rounds n) s = played-steps n s
 played-things_of (Login line image) s = refl
 played-things_of (Start n) s = refl

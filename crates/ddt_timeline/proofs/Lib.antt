@@ -4,3 +4,4 @@ pub mod AtOnce
 pub mod GoingOn
 pub mod HistoryLemmas
 pub mod GoingBack
+pub mod RecordedLemmas

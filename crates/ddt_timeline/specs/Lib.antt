@@ -4,3 +4,4 @@ pub mod Runs
 pub mod Histories
 pub mod Laws
 pub mod Views
+pub mod Recorded
