@@ -48,6 +48,16 @@ printf '.=\n' >lines
 printf '.DO lines\n.=\n.DO lines\n' | "$program" counter.mac >given
 printf '%s\n' '* .=' '000000,,000140' '000000,,000140' '* .=' '000000,,000140' | cmp -s - given || say "two files of lines: $(cat given)"
 
+# bytes that do not print, of a file's name and of its lines, are shown in octal
+escape=$'\033'
+ln -s digits.mac "red$escape.mac"
+printf '; %s\n.DO it\n' "$escape" >"do$escape"
+printf '.JOBS\n.DO do%s\n' "$escape" | "$program" "red$escape.mac" >given
+{
+    printf '%s\n' 'job 1, red\033.mac: not started, PC START' 'steps 0, ticks 0'
+    printf '%s\n' '* ; \033' '* .DO it' '? do\033: a file of lines obeys no other file'
+} | cmp -s - given || say "bytes that do not print: $(cat given)"
+
 # a line of 256 characters is read, one of 257 is passed over
 { printf '%256s\n' '.='; printf '%257s\n' '.='; echo .=; } | "$program" counter.mac >given
 printf '%s\n' '000000,,000140' '? a line has at most 256 characters' '000000,,000140' | cmp -s - given || say "a line that is too long: $(cat given)"

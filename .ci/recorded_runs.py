@@ -1,7 +1,9 @@
 #!/usr/bin/env python3
 """Records each stored run of `ten` (tests/ten/*.runs) by --record, has `lockmon run` obey the script that this writes, and
 compares: nothing is refused there, each terminal line gets the same text, as many steps are made, and the jobs stand as
-`ten` said. The words ten=PATH and lockmon=PATH name other programs than those that `rt ci` built."""
+`ten` said. So for each stored session of `ddt` (examples/*.ddt, tests/ddt/*.ddt), at its end, by `.RECORD`: there the
+registers, the first words of core, the requests, the waits, and what was not taken yet are compared as well. The words
+ten=PATH, ddt=PATH and lockmon=PATH name other programs than those that `rt ci` built."""
 import re
 import subprocess
 import sys
@@ -107,12 +109,99 @@ def compare(folder, ten, lockmon, run):
     return True
 
 
+MARK = b"U MARK\n"
+"""What `ddt` answers to a symbol that is not defined, which changes nothing: it ends each answer."""
+WORD = re.compile(rb"/ ([0-7]{6},,[0-7]{6})")
+PLACES = [*range(0o20), *range(0o140, 0o240)]
+REFUSALS = ("words were deposited", "a job was started at a place", "a script has no core images")
+
+
+def shown(texts, is_numbered):
+    """What `.TAKE` shows of the texts of the terminal lines."""
+    parts = []
+    for line, text in enumerate(texts):
+        if text:
+            parts += [b"line %d:\n" % line] * is_numbered + [text, b"\n" * (not text.endswith(b"\n"))]
+    return b"".join(parts) or b"nothing was typed out\n"
+
+
+def answers_of(ddt, folder, words, lines):
+    """What `ddt` answers to each of some lines."""
+    text = b"".join(line + b"\nMARK/\n" for line in lines)
+    made = subprocess.run([ddt, *words], cwd=folder, input=text, capture_output=True, timeout=stored_runs.SECONDS)
+    answers = made.stdout.split(MARK)[:-1]
+    if made.returncode or len(answers) != len(lines):
+        raise Wrong(f"ddt: status {made.returncode}, {len(answers)} answers to {len(lines)} lines")
+    return answers
+
+
+def compare_session(folder, ddt, lockmon, session):
+    """Whether a session could be recorded at its end; what was obeyed is then as it was there."""
+    file = folder / "recorded.run"
+    file.unlink(missing_ok=True)
+    lines = session.read_bytes().split(b"\n")[:-1]
+    lines = lines[: lines.index(b".QUIT")] if b".QUIT" in lines else lines
+    words = re.match(rb"; ddt (.*?): ", lines[0])[1].decode().split()
+    jobs = range(1, 1 + sum(word.endswith((".mac", ".sav")) for word in words))
+    looks = [b"$C"] + [look for job in jobs for look in (b".JOB %d" % job, b".EX 0-17", b".EX 140-237")]
+    tail = [b".RECORD recorded.run", b".TAKE", *looks, b".LOCKS", b".WAITS", b".JOBS"]
+    answers = answers_of(ddt, folder, words, lines + tail)
+    refusal, untaken, *looked, locks, waits, ends = answers[len(lines):]
+    if refusal:
+        if file.exists() or not any(it in refusal.decode() for it in REFUSALS):
+            raise Wrong(f"it is not recorded: {refusal.decode()}")
+        return False
+    script = file.read_bytes()
+    head = script.split(b"\n")[0].decode().split()
+    more = [b"TAKE %d" % (job - 1) for job in jobs] + [b"EXAMINE %d %o" % (job, place) for job in jobs for place in PLACES]
+    first, whole = (
+        subprocess.run([lockmon, *head[2:]], input=text, capture_output=True, timeout=stored_runs.SECONDS).stdout
+        for text in (script, script + b"\n".join(more) + b"\nSHOW LOCKS\nSHOW WAITS\n")
+    )
+    rest = whole.removeprefix(first).split(b"\n")
+    texts = [plain(line.removeprefix(b"TEXT").removeprefix(b" ")) for line in rest[: len(jobs)]]
+    for what, is_so, was in (
+        ("not taken yet", shown(texts, len(jobs) > 1), untaken),
+        ("in core", WORD.findall(b"\n".join(rest[len(jobs) : len(more)])), WORD.findall(b"".join(looked))),
+        ("locks and waits", b"\n".join(rest[len(more) :]), locks + waits),
+    ):
+        if is_so != was:
+            raise Wrong(f"{what} is {is_so}, and was {was}")
+    obeyed(script, first)
+    rounds, steps, ticks = (sum(map(int, re.findall(rb"^%s (\d+)$" % name, script.split(b"\nLOGIN ")[-1], re.M)))
+                            for name in (b"RUN", b"STEP", b"TICK"))
+    if b"steps %d, ticks %d" % (rounds + steps, rounds + ticks) not in ends:
+        raise Wrong(f"{rounds} rounds, {steps} steps and {ticks} ticks, and before: {ends.decode()}")
+    if len(jobs) == 1 and not any(line.upper().startswith(b".BACK") for line in lines):
+        were = b"".join(answers[at] for at, line in enumerate(lines) if line == b".TAKE").replace(shown([], False), b"")
+        taken = re.findall(rb"^TEXT (.*)$", first, re.M)
+        if b"".join(shown([plain(text)], False) for text in taken) != were:
+            raise Wrong(f"the texts are {taken}, and were {were}")
+    return True
+
+
+def sessions(ddt, lockmon):
+    """How many of the stored sessions could be recorded; none where one did not come out the same."""
+    recorded, is_right = 0, True
+    with TemporaryDirectory() as folder:
+        folder = Path(folder)
+        for file in [*TOP.glob("examples/*.*"), *TOP.glob("tests/ddt/*.*")]:
+            (folder / file.name).symlink_to(file)
+        for session in sorted([*TOP.glob("examples/*.ddt"), *TOP.glob("tests/ddt/*.ddt")]):
+            try:
+                recorded += compare_session(folder, ddt, lockmon, session)
+            except Wrong as wrong:
+                is_right = False
+                print(f"{session.relative_to(TOP)}: {wrong}", file=sys.stderr)
+    return recorded * is_right
+
+
 def main(words):
-    paths = {name: TOP / "crates" / name / "out" / name for name in ("ten", "lockmon")}
+    paths = {name: TOP / "crates" / name / "out" / name for name in ("ten", "ddt", "lockmon")}
     for word in words:
         name, _, path = word.partition("=")
         if name not in paths or not path:
-            raise Wrong("usage: .ci/recorded_runs.py [ten=PATH] [lockmon=PATH]")
+            raise Wrong("usage: .ci/recorded_runs.py [ten=PATH] [ddt=PATH] [lockmon=PATH]")
         paths[name] = Path(path).resolve()
     stored_runs.open_unread()
     recorded, is_right = 0, True
@@ -128,7 +217,9 @@ def main(words):
             except Wrong as wrong:
                 is_right = False
                 print(f"{run.file.relative_to(TOP)}:{run.line}: $ {run.command}: {wrong}", file=sys.stderr)
-    print(f"recorded runs: {recorded} were recorded" + " and came out the same" * is_right, file=sys.stderr)
+    held = sessions(paths["ddt"], paths["lockmon"])
+    is_right &= held > 0
+    print(f"recorded runs: {recorded} and {held} sessions were recorded" + " and came out the same" * is_right, file=sys.stderr)
     return is_right and recorded > 0
 
 

@@ -154,6 +154,8 @@ pub enum Command<'a> {
     History(u32),
     /// `.SAVE file`: writes the lines of the session to a file.
     Save(&'a [u8]),
+    /// `.RECORD file`: writes what has happened to a file, as a script of `lockmon run`.
+    Record(&'a [u8]),
     /// `.DO file`: obeys the lines of a file.
     Do(&'a [u8]),
     /// `.HELP` or `.HELP word`: lists the commands, or those in which the word stands.

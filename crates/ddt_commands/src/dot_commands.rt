@@ -32,6 +32,7 @@ enum DotCommand {
     Help,
     History,
     Job,
+    Record,
     Save,
     Step,
     Tick,
@@ -52,7 +53,7 @@ enum LoneCommand {
 }
 
 /// The words of the dot commands.
-static WORDS: [(&str, DotCommand); 19] = [
+static WORDS: [(&str, DotCommand); 20] = [
     ("BACK", DotCommand::Back),
     ("BREAK", DotCommand::Break),
     ("DO", DotCommand::Do),
@@ -64,6 +65,7 @@ static WORDS: [(&str, DotCommand); 19] = [
     ("JOBS", DotCommand::Lone(LoneCommand::Jobs)),
     ("LOCKS", DotCommand::Lone(LoneCommand::Locks)),
     ("QUIT", DotCommand::Lone(LoneCommand::Quit)),
+    ("RECORD", DotCommand::Record),
     ("REGS", DotCommand::Lone(LoneCommand::Regs)),
     ("SAVE", DotCommand::Save),
     ("STEP", DotCommand::Step),
@@ -183,7 +185,9 @@ pub fn read_dot_command<'a>(text: &'a [u8], scope: &Scope<'_>) -> Result<Command
         DotCommand::Lone(word) => Ok(command_of(word)),
         DotCommand::Back => read_back(rest, scope),
         DotCommand::Break => read_break(rest, scope),
-        DotCommand::Do | DotCommand::Save if rest.is_empty() => Err(LineError::NoFile),
+        DotCommand::Do | DotCommand::Record | DotCommand::Save if rest.is_empty() => {
+            Err(LineError::NoFile)
+        }
         DotCommand::Do => Ok(Command::Do(rest)),
         DotCommand::Ex => read_examine(rest, scope),
         DotCommand::Help => Ok(Command::Help(rest)),
@@ -194,6 +198,7 @@ pub fn read_dot_command<'a>(text: &'a [u8], scope: &Scope<'_>) -> Result<Command
             }
             _ => Err(LineError::NoJob),
         },
+        DotCommand::Record => Ok(Command::Record(rest)),
         DotCommand::Save => Ok(Command::Save(rest)),
         DotCommand::Type => read_type(rest),
         DotCommand::Watch => Ok(Command::Watch(read_address(rest, scope)?)),

@@ -36,6 +36,10 @@ pub enum Refusal {
     NoTurns,
     /// A search found no word.
     NotFound,
+    /// Words were deposited, of which a script can say nothing.
+    Deposited,
+    /// A job was started at an address, of which a script can say nothing.
+    StartedAt,
 }
 
 impl fmt::Display for Refusal {
@@ -60,6 +64,10 @@ impl fmt::Display for Refusal {
             Refusal::WrongOrder => "? the first place is behind the last",
             Refusal::NoTurns => "? the job has had no turn",
             Refusal::NotFound => "? no word was found",
+            Refusal::Deposited => "? not recorded: words were deposited, which no script does",
+            Refusal::StartedAt => {
+                "? not recorded: a job was started at a place, which no script does"
+            }
         };
         f.write_str(text)
     }

@@ -3,10 +3,9 @@
 use crate::runs::run_from_start;
 use crate::session::Session;
 use ddt_commands::Refusal;
-use ddt_moves::{take_line, type_line};
+use ddt_moves::{is_stopped, take_line, type_line};
 use ddt_show::AnswerText;
 use ddt_timeline::{Entry, Timeline};
-use monitor::Answer;
 use word36::{Address, Word};
 
 /// A value: deposits it at the open address, and closes that.
@@ -40,8 +39,11 @@ pub fn start_at(session: &mut Session, timeline: &mut Timeline, address: u32) {
     let Some(address) = Address::try_new(address) else {
         return session.answer.refuse(Refusal::NoWord);
     };
+    if !is_stopped(timeline.machine(), session.open) {
+        return session.answer.refuse(Refusal::NotStopped);
+    }
+    session.input.forget(timeline.happened());
     match timeline.make(Entry::StartAt(session.open, address)) {
-        Ok(Answer::Refused(_)) => session.answer.refuse(Refusal::NotStopped),
         Ok(_) => run_from_start(session, timeline),
         Err(_) => session.answer.fail(),
     }

@@ -9,6 +9,7 @@ use crate::texts;
 use ddt_timeline::Timeline;
 use program_shell::{DONE, Failure, NextLine};
 use script_io::LINE_LENGTH;
+use shown_bytes::shown_text;
 
 /// How a line begins that says why a file cannot be used.
 const REFUSAL_HEAD: &str = "? ";
@@ -46,7 +47,7 @@ pub fn serve_lines<H: Host>(
         let came = take_line(host, session, line)?;
         let action = action_in(session, timeline, came, line.as_slice());
         let goes_on = serve_action(host, session, action);
-        match write_answer(host, Stream::Answers, &mut session.answer) {
+        match write_answer(host, &mut session.answer) {
             Ok(()) if goes_on => {}
             Ok(()) => break,
             Err(failure) => return Err(failure),
@@ -92,6 +93,10 @@ fn serve_action<H: Host>(host: &H, session: &mut Session, action: HostAction<'_>
             let lines = session.kept.as_slice();
             write_file(host, REFUSAL_HEAD, file, lines, &mut session.answer);
         }
+        HostAction::Record(file) => {
+            let script = session.script.as_slice();
+            write_file(host, REFUSAL_HEAD, file, script, &mut session.answer);
+        }
         HostAction::Do(file) => {
             if let Some(text) = read_file(host, REFUSAL_HEAD, file, &mut session.answer) {
                 begin_file(session, file, text);
@@ -104,7 +109,7 @@ fn serve_action<H: Host>(host: &H, session: &mut Session, action: HostAction<'_>
 
 /// Has the lines of a file obeyed next.
 fn begin_file(session: &mut Session, file: &str, text: Vec<u8>) {
-    match String::from_str(session.alloc, file) {
+    match shown_text(session.alloc, file.as_bytes()) {
         Ok(name) => session.file_lines = FileLines::new(name, text),
         Err(_) => session.answer.fail(),
     }

@@ -4,12 +4,13 @@ use ddt_moves::line_from;
 use ddt_show::AnswerText;
 use program_shell::NextLine;
 use script_io::LINE_LENGTH;
+use shown_bytes::shown_lines;
 use std::alloc::{AllocError, Global};
 
 /// The lines of a file, and how far they were obeyed.
 #[derive(Drop)]
 pub struct FileLines {
-    /// The name of the file, while its lines are obeyed.
+    /// The name of the file as it is shown, while its lines are obeyed.
     file: Option<String>,
     text: Vec<u8>,
     /// The position of the next line in the text.
@@ -26,7 +27,7 @@ impl FileLines {
         }
     }
 
-    /// The lines of a file.
+    /// The lines of a file, whose name is shown so.
     pub fn new(file: String, text: Vec<u8>) -> Self {
         FileLines {
             file: Some(file),
@@ -35,7 +36,7 @@ impl FileLines {
         }
     }
 
-    /// The name of the file whose lines are obeyed, if there is one.
+    /// The name, as it is shown, of the file whose lines are obeyed, if there is one.
     pub fn file(&self) -> Option<&str> {
         match &self.file {
             Some(file) => Some(file.as_str()),
@@ -43,7 +44,8 @@ impl FileLines {
         }
     }
 
-    /// Puts the next line in place of `line`, and adds it to the answer. At the end of the text no file is obeyed any longer.
+    /// Puts the next line in place of `line`, and adds it to the answer as it is shown: `* LINE`. At the end of the text no file is
+    /// obeyed any longer.
     pub fn next_line(
         &mut self,
         line: &mut Vec<u8>,
@@ -56,7 +58,9 @@ impl FileLines {
         };
         self.next = behind;
         line.extend_from_slice(next)?;
-        answer.echo(next);
+        answer.say("* ");
+        answer.say_made(shown_lines(answer.alloc, next));
+        answer.end_line();
         if line.len() > LINE_LENGTH {
             return Ok(NextLine::TooLong);
         }

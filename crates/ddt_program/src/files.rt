@@ -2,13 +2,7 @@
 
 use crate::host::Host;
 use ddt_show::AnswerText;
-use std::io;
-
-/// Reports why a file cannot be read or written, in a line that begins with `head`.
-fn report_file_error(head: &str, file: &str, error: io::Error, report: &mut AnswerText) {
-    let alloc = report.alloc;
-    report.say_made(format!(in alloc; "{head}{file}: {error}\n"));
-}
+use program_shell::file_error_text;
 
 /// The bytes of a file; `None` where it cannot be read, and a line that begins with `head` reports why.
 pub fn read_file<H: Host>(
@@ -20,7 +14,7 @@ pub fn read_file<H: Host>(
     match host.read_file(file) {
         Ok(text) => Some(text),
         Err(error) => {
-            report_file_error(head, file, error, report);
+            report.say_made(file_error_text(report.alloc, head, file, error));
             None
         }
     }
@@ -35,6 +29,6 @@ pub fn write_file<H: Host>(
     report: &mut AnswerText,
 ) {
     if let Err(error) = host.write_file(file, bytes) {
-        report_file_error(head, file, error, report);
+        report.say_made(file_error_text(report.alloc, head, file, error));
     }
 }

@@ -3,6 +3,7 @@
 use ddt_show::AnswerText;
 use program_shell::{Failure, NextLine};
 use script_io::Failed;
+use shown_bytes::shown_lines;
 use std::io;
 
 /// Where something is written.
@@ -33,17 +34,32 @@ pub trait Host {
 }
 
 /// Writes an answer, and empties it. Nothing is written where there was no memory for all of it, which is a failure.
-pub fn write_answer<H: Host>(
-    host: &mut H,
-    stream: Stream,
-    answer: &mut AnswerText,
-) -> Result<(), Failure> {
+pub fn write_answer<H: Host>(host: &mut H, answer: &mut AnswerText) -> Result<(), Failure> {
     let Some(bytes) = answer.bytes() else {
         return Err(Failure::Memory);
     };
-    if host.write(stream, bytes).is_err() {
+    if host.write(Stream::Answers, bytes).is_err() {
         return Err(Failure::Write);
     }
     answer.clear();
+    Ok(())
+}
+
+/// Writes what is reported before the first line to the errors, as lines for a person are shown, and empties it. Nothing is
+/// written where there is no memory for all of it, which is a failure.
+pub fn write_report<H: Host>(host: &mut H, report: &mut AnswerText) -> Result<(), Failure> {
+    let Some(bytes) = report.bytes() else {
+        return Err(Failure::Memory);
+    };
+    let Ok(text) = shown_lines(report.alloc, bytes) else {
+        return Err(Failure::Memory);
+    };
+    if host
+        .write(Stream::Errors, text.as_str().as_bytes())
+        .is_err()
+    {
+        return Err(Failure::Write);
+    }
+    report.clear();
     Ok(())
 }

@@ -14,6 +14,7 @@ mod loading;
 mod obey;
 mod options;
 mod program;
+mod recording;
 mod run_ends;
 mod runs;
 mod searches;

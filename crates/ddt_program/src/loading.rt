@@ -6,6 +6,7 @@ use ddt_timeline::{Entry, Timeline};
 use image_files::Packing;
 use monitor::{Answer, RefusedEvent};
 use program_files::read_program;
+use shown_bytes::push_shown;
 use source_labels::{Assembled, MOST_REPORTED, Program, Source, warnings_of};
 
 /// Gives the programs of all files, sources and core images whose words are packed so, and reports what is wrong with them,
@@ -40,7 +41,7 @@ fn add_job(session: &mut Session, file: &str, shown: ShownJob) {
         file: String::new(alloc),
         symbols: Vec::new(alloc),
     };
-    let is_whole = job.file.push_str(file).is_ok() && job.add_labels().is_ok();
+    let is_whole = push_shown(&mut job.file, file.as_bytes()).is_ok() && job.add_labels().is_ok();
     if session.jobs.push(job).is_err() || !is_whole {
         session.answer.fail();
     }

@@ -4,6 +4,7 @@ use crate::changes::{deposit, make, start_at, take, type_at};
 use crate::examining::{evaluate, examine, open, show_last};
 use crate::going_back::{back, back_to, back_to_write, forward};
 use crate::histories::show_history;
+use crate::recording::record;
 use crate::runs::{execute, execute_call, go, proceed, step};
 use crate::searches::search;
 use crate::session::Session;
@@ -21,10 +22,12 @@ use std::str;
 pub enum HostAction<'a> {
     /// Nothing; the line is kept for `.SAVE`.
     Keep,
-    /// Nothing; the line is not kept, since it is too long, or names a file that is refused.
+    /// Nothing; the line is not kept, since it is too long, or names a file that is neither read nor written.
     Refuse,
     /// To write the lines that were kept to this file.
     Save(&'a str),
+    /// To write the script of what has happened to this file.
+    Record(&'a str),
     /// To read this file, whose lines are obeyed next.
     Do(&'a str),
     /// To end the session.
@@ -63,6 +66,10 @@ fn action_of<'a>(session: &mut Session, command: &Command<'a>) -> HostAction<'a>
         Command::Save(file) => match name_in(&mut session.answer, file) {
             Some(file) => HostAction::Save(file),
             None => HostAction::Refuse,
+        },
+        Command::Record(file) => match name_in(&mut session.answer, file) {
+            Some(file) if !session.script.is_empty() => HostAction::Record(file),
+            _ => HostAction::Refuse,
         },
         Command::Do(file) => match file_to_obey(session, file) {
             Some(file) => HostAction::Do(file),
@@ -107,11 +114,10 @@ fn obey(session: &mut Session, timeline: &mut Timeline, command: &Command<'_>) {
     }
 }
 
-/// Whether a command makes something happen to the machine; `deposit` and `go` find that out themselves.
+/// Whether a command makes something happen to the machine; `deposit`, `go` and `start_at` find that out themselves.
 fn makes_happen(command: &Command<'_>) -> bool {
     match *command {
-        Command::GoAt(_)
-        | Command::Proceed(_)
+        Command::Proceed(_)
         | Command::Execute(_)
         | Command::ExecuteCall
         | Command::Step(_)
@@ -143,7 +149,7 @@ fn obey_move(session: &mut Session, timeline: &mut Timeline, command: &Command<'
     }
 }
 
-/// Obeys a command that leaves the machine as it is: it opens addresses, sets stops, or shows something.
+/// Obeys a command that leaves the machine as it is: it opens addresses, sets stops, shows something, or makes a script.
 fn obey_look(session: &mut Session, timeline: &Timeline, command: &Command<'_>) {
     match *command {
         Command::Next => open(session, timeline, next_address(session.here)),
@@ -168,6 +174,7 @@ fn obey_look(session: &mut Session, timeline: &Timeline, command: &Command<'_>) 
         Command::Waits => show_waits(&mut session.answer, timeline),
         Command::Registers => show_registers(session, timeline),
         Command::History(count) => show_history(session, timeline, count),
+        Command::Record(_) => record(session, timeline),
         Command::Help(word) => help(&mut session.answer, word),
         _ => {}
     }

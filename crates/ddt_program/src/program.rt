@@ -4,7 +4,7 @@ ghost use Rattle.std.specs.Prelude.{◌≡◌, ◌≢◌, false};
 use crate::arguments::Arguments;
 use crate::dialogue::serve_lines;
 use crate::files::read_file;
-use crate::host::{Host, Stream, write_answer};
+use crate::host::{Host, Stream, write_report};
 use crate::loading::begin;
 use crate::options::read_arguments;
 use crate::session::Session;
@@ -12,7 +12,7 @@ use crate::texts;
 use ddt_moves::InputLines;
 use ddt_show::AnswerText;
 use ddt_timeline::Timeline;
-use program_shell::{Answers, DONE, FAILED, Failure, REFUSED, Refusal, USAGE};
+use program_shell::{Answers, DONE, FAILED, Failure, REFUSED, Refusal, USAGE, refusal_text};
 use script_io::ByteOut;
 use source_labels::Source;
 use std::alloc::{AllocError, Global};
@@ -55,18 +55,17 @@ fn read_input<H: Host>(host: &H, file: Option<&str>, session: &mut Session) -> b
 
 /// Reports why the arguments were refused, or answers with the help or the version that they ask for; gives the exit status.
 fn report_refusal<H: Host>(alloc: Global, refusal: Refusal, host: &mut H) -> Result<u8, Failure> {
-    match refusal {
-        Refusal::Memory => Err(Failure::Memory),
-        Refusal::Usage(error) => {
-            let (stream, status) = if error.use_stderr() {
-                (Stream::Errors, USAGE)
-            } else {
-                (Stream::Answers, DONE)
-            };
-            let mut text = AnswerText::new(alloc);
-            text.say_made(error.to_string(alloc));
-            write_answer(host, stream, &mut text).and(Ok(status))
-        }
+    let Ok(said) = refusal_text(alloc, refusal) else {
+        return Err(Failure::Memory);
+    };
+    let (stream, status) = if said.is_asked_for {
+        (Stream::Answers, DONE)
+    } else {
+        (Stream::Errors, USAGE)
+    };
+    match host.write(stream, said.text.as_str().as_bytes()) {
+        Ok(()) => Ok(status),
+        Err(_) => Err(Failure::Write),
     }
 }
 
@@ -93,6 +92,14 @@ fn load<H: Host>(
         if host.is_person() {
             session.answer.say(texts::BANNER);
         }
+        let jobs = session.jobs.as_slice();
+        let head = &mut session.head;
+        if head
+            .begin(arguments.config, jobs, sources.as_slice())
+            .is_err()
+        {
+            session.answer.fail();
+        }
         None
     } else {
         Some(REFUSED)
@@ -111,7 +118,7 @@ fn run_session<H: Host>(
     let mut session = Session::new(alloc);
     let mut line = Vec::new(alloc);
     let ended = load(host, arguments, &mut session, &mut timeline);
-    let reported = write_answer(host, Stream::Errors, &mut session.answer);
+    let reported = write_report(host, &mut session.answer);
     let served = match (reported, ended) {
         (Err(failure), _) => Err(failure),
         (Ok(()), Some(status)) => Ok(status),

@@ -1,6 +1,7 @@
 //! A session of the debugger.
 
 use crate::file_lines::FileLines;
+use crate::recording::ScriptHead;
 use ddt_commands::{OutputMode, Scope, Symbol};
 use ddt_moves::{InputLines, StopList, ended_at};
 use ddt_show::{AnswerText, ShownJob, address_line, address_text, job_line};
@@ -14,7 +15,7 @@ use word36::{JOBS, Word};
 pub struct SessionJob {
     /// Its number, and where its labels and literals stand.
     pub shown: ShownJob,
-    /// The name of its source's file.
+    /// The name of its source's file, as it is shown.
     pub file: String,
     /// Its labels, with their addresses.
     pub symbols: Vec<Symbol>,
@@ -62,6 +63,10 @@ pub struct Session {
     pub kept: Vec<u8>,
     /// The lines of the file that is obeyed.
     pub file_lines: FileLines,
+    /// The sources, as a script begins with them.
+    pub head: ScriptHead,
+    /// The script of what has happened that `.RECORD` writes.
+    pub script: Vec<u8>,
 }
 
 impl Session {
@@ -81,6 +86,8 @@ impl Session {
             answer: AnswerText::new(alloc),
             kept: Vec::new(alloc),
             file_lines: FileLines::none(alloc),
+            head: ScriptHead::new(alloc),
+            script: Vec::new(alloc),
         }
     }
 

@@ -63,13 +63,6 @@ impl AnswerText {
         self.say_made(format!(in alloc; "{refusal}\n"));
     }
 
-    /// Adds a line of a file, which is shown before its answer: `* LINE`.
-    pub fn echo(&mut self, line: &[u8]) {
-        self.say("* ");
-        self.add(line);
-        self.end_line();
-    }
-
     /// Notes that there was no memory for a piece of the answer.
     pub fn fail(&mut self) {
         self.is_whole = false;

@@ -3,7 +3,7 @@
 use crate::answer_text::AnswerText;
 
 /// A line on each command, which stands in the first 16 characters.
-static COMMANDS: [&str; 41] = [
+static COMMANDS: [&str; 42] = [
     "a/               opens a place and shows its word",
     "(empty)          the next place; ^ the one before; TAB the one that the last word addresses",
     "value            puts the value in the place that is open",
@@ -43,6 +43,7 @@ static COMMANDS: [&str; 41] = [
     ".BACK WRITE a    to before the step that last changed the word at a",
     ".FORWARD         to where .BACK was typed",
     ".SAVE file       writes the lines so far, as a script; .DO file obeys the lines of a file",
+    ".RECORD file     writes what has happened as a script of `lockmon run`, where nothing was changed by hand",
     "; text           a remark",
     ".QUIT            ends the session; .HELP word tells of one command",
 ];

@@ -1,0 +1,103 @@
+//! What has happened in a session as a script of `lockmon run`.
+
+use crate::session::{Session, SessionJob};
+use ddt_commands::Refusal;
+use ddt_moves::is_edited;
+use ddt_show::AnswerText;
+use ddt_timeline::{Timeline, push_past};
+use machine::Config;
+use program_files::is_image_name;
+use run_record::{push_end, push_head, push_program, unquotable_line};
+use source_labels::Source;
+use std::alloc::{AllocError, Global};
+
+/// The sources of a session, as a script begins with them.
+#[derive(Drop)]
+pub struct ScriptHead {
+    /// A remark with the command that obeys the script, and the sources.
+    text: Vec<u8>,
+    /// Why some of the sources cannot stand in a script, a line each.
+    refusals: AnswerText,
+}
+
+impl ScriptHead {
+    /// No sources.
+    pub fn new(alloc: Global) -> Self {
+        ScriptHead {
+            text: Vec::new(alloc),
+            refusals: AnswerText::new(alloc),
+        }
+    }
+
+    /// Adds the source of a job as the program of its number, or why it cannot stand in a script.
+    fn add(&mut self, job: &SessionJob, source: &Source<'_>) -> Result<(), AllocError> {
+        let (alloc, file) = (self.refusals.alloc, job.file.as_str());
+        if is_image_name(source.file) {
+            self.refusals.say("? ");
+            self.refusals.say(file);
+            self.refusals.say(
+                ": not recorded: a script has no core images, but `image source` writes a source from one\n",
+            );
+            return Ok(());
+        }
+        match unquotable_line(source.text.as_slice()) {
+            Some(line) => {
+                let (number, reason) = (line.number, line.reason);
+                self.refusals.say_made(format!(in alloc;
+                    "? {file}:{number}: not recorded: the line {reason}\n"
+                ));
+                Ok(())
+            }
+            None => push_program(
+                &mut self.text,
+                job.shown.number,
+                file,
+                source.text.as_slice(),
+            ),
+        }
+    }
+
+    /// Adds the command, for a machine of this size, and the source of each job.
+    pub fn begin(
+        &mut self,
+        config: Config,
+        jobs: &[SessionJob],
+        sources: &[Source<'_>],
+    ) -> Result<(), AllocError> {
+        push_head(&mut self.text, config.blocks(), config.quantum())?;
+        for (job, source) in jobs.iter().zip(sources) {
+            self.add(job, source)?;
+        }
+        Ok(())
+    }
+}
+
+/// Makes the script of what has happened: these sources, and all events; false where a script cannot say them.
+fn make_script(
+    script: &mut Vec<u8>,
+    sources: &[u8],
+    timeline: &Timeline,
+) -> Result<bool, AllocError> {
+    script.extend_from_slice(sources)?;
+    let is_said = push_past(script, timeline)?;
+    push_end(script)?;
+    Ok(is_said)
+}
+
+/// `.RECORD file`: makes the script of what has happened. Where there is none, which is reported, it is empty.
+pub fn record(session: &mut Session, timeline: &Timeline) {
+    session.script.clear();
+    let head = &session.head;
+    match head.refusals.bytes() {
+        Some([]) => {}
+        Some(refusals) => return session.answer.add(refusals),
+        None => return session.answer.fail(),
+    }
+    match make_script(&mut session.script, head.text.as_slice(), timeline) {
+        Ok(true) => return,
+        Ok(false) if is_edited(timeline) => session.answer.refuse(Refusal::Deposited),
+        Ok(false) => session.answer.refuse(Refusal::StartedAt),
+        Err(_) => session.answer.fail(),
+    }
+    session.script.clear();
+}
