@@ -1,6 +1,6 @@
 //! What a job waits for, in words.
 
-use crate::locks::push_lock;
+use crate::locks::LockText;
 use concrete_machine::Machine;
 use lock_queue::Request;
 use std::alloc::{AllocError, Global};
@@ -19,14 +19,9 @@ fn before_job(position: usize, count: usize) -> &'static str {
 
 /// Adds what a job waits for: `lock X, held by job 2`, or `lock X, behind jobs 3 and 4` where nobody holds it.
 fn push_wait(text: &mut String, wait: &LockWait<'_>) -> Result<(), AllocError> {
-    let relation = if wait.is_held {
-        ", held by"
-    } else {
-        ", behind"
-    };
-    text.push_str("lock ")?;
-    push_lock(text, wait.want)?;
-    text.push_str(relation)?;
+    let lock = LockText { want: wait.want };
+    let relation = if wait.is_held { "held by" } else { "behind" };
+    write!(text, "lock {lock}, {relation}")?;
     let count = wait.jobs.len();
     for (position, job) in wait.jobs.iter().enumerate() {
         let before = before_job(position, count);
