@@ -1,4 +1,4 @@
-use Rattle.std.proofs.Common.{◌≡◌, ◌∙◌, ◌+◌, ◌-◌, ◌^◌, sym, ap, not, true, ℕ, Option}
+use Rattle.std.proofs.Common.{◌≡◌, ◌∙◌, ◌+◌, ◌-◌, ◌^◌, sym, ap, refl, not, true, ℕ, Option}
 use Rattle.std.specs.Prelude.{min}
 use Rattle.machine.specs.Machine.{S}
 use Rattle.machine.specs.Views.{word_in}
@@ -6,6 +6,10 @@ use Rattle.ddt_timeline.specs.Stops.{is_word, round}
 use Rattle.ddt_moves.specs.Replays.{changes, is_ready, machine_in, steps_made, to_come}
 use Rattle.ddt_moves.proofs.ReplayLemmas.{fewer-left, found-end, found-step, last_found, newer-same}
 use Rattle.ddt_moves.proofs.past_steps.last_write.Goals as goal
+
+pub loop-replay-init : goal.loop-replay-init
+loop-replay-init c =
+    rw (c.in_ok-replay.ensures.to_come, c.in_ok-replay.ensures.steps, c.in_ok-replay.ensures.machine) refl
 
 pub loop-replay-smaller : goal.loop-replay-smaller
 loop-replay-smaller c =
