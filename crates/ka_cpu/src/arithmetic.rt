@@ -15,7 +15,9 @@ use word36::Word;
 /// 2 ^ 35, the magnitude of the least number.
 const LEAST: u64 = 0o400_000_000_000;
 
-/// The sum of two words and a carry, where it is below 2 ^ 35: such a sum has no carry out of bit 0 or bit 1.
+/// The sum of two words and a carry, where it is below 2 ^ 35 - 1: such a sum has no carry out of bit 0 or bit 1. The
+/// bound is one less than it could be, so that it is the number with which AOJ and SOJ compare too, and one register
+/// holds it.
 #[inline(always)]
 #[tactic(auto, using(crate::proofs::Sums::small_sums))]
 fn small_sum(a: Word, b: Word, carry: bool) -> Option<Word>
@@ -23,7 +25,7 @@ fn small_sum(a: Word, b: Word, carry: bool) -> Option<Word>
     ensures flags { IfSome result (λ _. (f : SpecFlags) → sum_flags f a b (if carry then 1 else 0) ≡ f) }
 {
     let total = a.number() + b.number() + carry as u64;
-    if total < LEAST {
+    if total < LEAST - 1 {
         Some(Word::new(total))
     } else {
         None

@@ -12,7 +12,7 @@ ghost use Rattle.ka_cpu.specs.Jumps.{jffo_row, aobj_row, jrst_row, jfcl_row, jsr
 use crate::address::find_used;
 use crate::instruction::{ILLEGAL, Instruction, is_legal_address};
 use crate::memory::store;
-use crate::registers::{flags_of, pc_word};
+use crate::registers::{flags_of, next_pc_word};
 use crate::{CallKind, Flags, JobMemory, Outcome, Regs, StopReason, fetch};
 use ka_word::{count_up, leading_zeros};
 use word36::{Address, Word};
@@ -132,7 +132,7 @@ pub fn do_jsr<M: JobMemory>(regs: &mut Regs, memory: &mut M, n: Instruction) -> 
         ≡ finished regs.old (M.words memory.old) n (Ok (jsr_row regs.old n)) }
     ensures place { M.place memory.new ≡ M.place memory.old }
 {
-    let word = pc_word(regs.flags, regs.pc.plus(1));
+    let word = next_pc_word(regs);
     if !enter_behind(regs, memory, n, word) {
         return ILLEGAL;
     }
@@ -147,7 +147,7 @@ pub fn do_jsp<M: JobMemory>(regs: &mut Regs, memory: &mut M, n: Instruction) -> 
         ≡ finished regs.old (M.words memory.old) n (Ok (jsp_row regs.old n)) }
     ensures place { M.place memory.new ≡ M.place memory.old }
 {
-    regs.ac[n.ac()] = pc_word(regs.flags, regs.pc.plus(1));
+    regs.ac[n.ac()] = next_pc_word(regs);
     regs.pc = n.e();
     Outcome::Done
 }

@@ -1,6 +1,7 @@
 //! The registers of a job.
 
 ghost use Rattle.std.specs.Prelude.{◌≡◌};
+ghost use Rattle.ka_cpu.specs.Effects.{next_pc};
 ghost use Rattle.ka_cpu.specs.Jumps.{flags_of, pc_word};
 
 use word36::{Address, Word};
@@ -41,6 +42,19 @@ pub fn pc_word(flags: Flags, pc: Address) -> Word
     let carry1 = (flags.carry1 as u64) << 33;
     let no_divide = (flags.no_divide as u64) << 23;
     Word::new(overflow + carry0 + carry1 + (1 << 30) + no_divide + pc.number() as u64)
+}
+
+/// The PC word of a call: the flags, and the address of the next instruction. The flags are read one by one where
+/// they are kept, since the compiler takes a copy of the four apart by shifts and masks.
+#[inline(always)]
+#[tactic(auto, unfolding(crate::specs::Jumps::pc_word))]
+pub fn next_pc_word(regs: &Regs) -> Word
+    ensures { result ≡ pc_word regs.now.flags (next_pc regs.now) }
+{
+    let flags = &regs.flags;
+    let carries = flags.overflow as u64 * 4 + flags.carry0 as u64 * 2 + flags.carry1 as u64;
+    let left = carries * 0o100_000_000_000 + (1 << 30) + flags.no_divide as u64 * 0o40_000_000;
+    Word::new(left + regs.pc.plus(1).number() as u64)
 }
 
 /// The flags in the left half of a PC word, whose other bits have no effect.

@@ -7,7 +7,7 @@ ghost use Rattle.ka_cpu.specs.Stacks.{pushj_row, push_row, pop_row, popj_row};
 
 use crate::instruction::{ILLEGAL, Instruction, is_legal_address};
 use crate::memory::{store, try_store};
-use crate::registers::pc_word;
+use crate::registers::next_pc_word;
 use crate::{JobMemory, Outcome, Regs, StopReason, fetch};
 use ka_word::{pop_up, push_down, runs_under};
 use word36::Address;
@@ -34,7 +34,7 @@ pub fn do_pushj<M: JobMemory>(regs: &mut Regs, memory: &mut M, n: Instruction) -
 {
     let old = regs.ac[n.ac()];
     let (pointer, runs_out) = push_down(old);
-    let word = pc_word(regs.flags, regs.pc.plus(1));
+    let word = next_pc_word(regs);
     if !try_store(regs, memory, pointer.right(), word) {
         return ILLEGAL;
     }
