@@ -4,7 +4,8 @@
 - A document has examples: a block marked `queue`, `run` or `asm`, behind it a block marked `output`, and where standard
   error is told something a block marked `told`.
 - A script or a source of examples/ or tests/, NAME.queue, NAME.run or NAME.mac, has NAME.out. A comment that begins
-  with `; lockmon ` has the words by which it is served. A folder with a file of runs is left to .ci/stored_runs.py.
+  with `; lockmon ` has the words by which it is served. In a folder with a file of runs those without NAME.out are left
+  to .ci/stored_runs.py.
 - A table NAME.queue.cases and so on has a script, ` | ` and what is written on it in each line.
 - A table NAME.rows has rows of the processor, which `lockmon` assembles and `ka_run` carries out.
 
@@ -148,7 +149,7 @@ def cases_of_folder(folder):
             found = list(cases_of_table(path))
             if not found:
                 raise Wrong(f"{path}: it has no case")
-        elif path.suffix in COMMANDS and not with_runs & {path.parent, *path.parent.parents}:
+        elif path.suffix in COMMANDS and (path.with_suffix(".out") in files or not with_runs & {path.parent, *path.parent.parents}):
             found = [case_of_script(path)]
         yield from found
 
