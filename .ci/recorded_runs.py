@@ -142,7 +142,7 @@ def compare_session(folder, ddt, lockmon, session):
     lines = session.read_bytes().split(b"\n")[:-1]
     lines = lines[: lines.index(b".QUIT")] if b".QUIT" in lines else lines
     words = re.match(rb"; ddt (.*?): ", lines[0])[1].decode().split()
-    jobs = range(1, 1 + sum(word.endswith((".mac", ".sav")) for word in words))
+    jobs = range(1, 1 + sum(Path(word).suffix in ("", ".mac", ".sav") and (folder / word).exists() for word in words))
     looks = [b"$C"] + [look for job in jobs for look in (b".JOB %d" % job, b".EX 0-17", b".EX 140-237")]
     tail = [b".RECORD recorded.run", b".TAKE", *looks, b".LOCKS", b".WAITS", b".JOBS"]
     answers = answers_of(ddt, folder, words, lines + tail)
@@ -185,8 +185,9 @@ def sessions(ddt, lockmon):
     recorded, is_right = 0, True
     with TemporaryDirectory() as folder:
         folder = Path(folder)
-        for file in [*TOP.glob("examples/*.*"), *TOP.glob("tests/ddt/*.*")]:
-            (folder / file.name).symlink_to(file)
+        for file in [*TOP.glob("examples/*"), *TOP.glob("tests/ddt/*")]:
+            if file.suffix not in (".out", ".runs"):
+                (folder / file.name).symlink_to(file)
         for session in sorted([*TOP.glob("examples/*.ddt"), *TOP.glob("tests/ddt/*.ddt")]):
             try:
                 recorded += compare_session(folder, ddt, lockmon, session)
