@@ -26,7 +26,6 @@ STALE = re.compile(r"has no field|is not in scope|has no `|was not admitted")
 ENDED = re.compile(r"^only=(\d+) proved=(\d+)$", re.MULTILINE)
 
 
-
 @functools.lru_cache(maxsize=None)
 def kit():
     """Gives the folder of the Rattle kit."""
