@@ -1,6 +1,7 @@
 """What the parts of the gate take: kept beside git's own files, shown as a table, and written into docs/MAINTAINING.md."""
 
 import collections
+import heapq
 import json
 import re
 import subprocess
@@ -15,8 +16,9 @@ FUNCTION = re.compile(r"^ *(?:pub(?:\([a-z]+\))? )?fn ", re.MULTILINE)
 
 
 class Minutes:
-    """The parts of the last run of the gate, each with its minutes of a processor and of the clock, and the seconds
-    of each crate as they were last measured: what a run did not prove anew keeps its earlier figure."""
+    """The parts of the last run of the gate, each with its minutes of a processor and of the clock and the share of the
+    processors that a host withheld meanwhile, and the seconds of each crate as they were last measured: what a run did
+    not prove anew keeps its earlier figure."""
 
     def __init__(self, parts=(), seconds=()):
         self.parts, self.seconds = dict(parts), {tuple(key.split(" ", 1)): it for key, it in dict(seconds).items()}
@@ -34,10 +36,24 @@ def last():
         return Minutes()
 
 
+def processors_of_host():
+    """Gives the time that processors were at work here since the start, and the time that a host withheld from work
+    that was there."""
+    with open("/proc/stat", encoding="utf-8") as it:
+        user, nice, system, _idle, _waits, irq, soft_irq, withheld = map(int, it.readline().split()[1:9])
+    return user + nice + system + irq + soft_irq, withheld
+
+
+def share_withheld(before, after):
+    """Gives the share that a host withheld of what was asked for between two looks."""
+    used, withheld = (later - earlier for earlier, later in zip(before, after, strict=True))
+    return withheld / max(1, used + withheld)
+
+
 def keep(took, seconds):
     """Keeps what a run took, and gives its table."""
     known = last()
-    known.parts = {name: (processor, clock) for name, processor, clock in took}
+    known.parts = {name: figures for name, *figures in took}
     proved = {crate for crate, kind in seconds if kind == "proof"}
     known.seconds = {key: it for key, it in known.seconds.items() if key[0] not in proved} | dict(seconds)
     with open(file(), "w", encoding="utf-8") as to:
@@ -55,13 +71,13 @@ def kinds(seconds):
 
 def table(parts, seconds):
     """Gives the table of a run: what was done in it, and what was kept from an earlier one costs nothing."""
-    lines = [f"{'part':<40}{'processor':>10}{'clock':>8}   (minutes)"]
-    for name, (processor, clock) in parts.items():
-        lines.append(f"{name:<40}{processor:>10.1f}{clock:>8.1f}")
+    lines = [f"{'part':<40}{'processor':>10}{'clock':>8}{'withheld':>10}   (minutes; the share that a host withheld)"]
+    for name, (processor, clock, withheld) in parts.items():
+        lines.append(f"{name:<40}{processor:>10.1f}{clock:>8.1f}{withheld:>10.0%}")
         if name == "rt ci":
             lines += [f"{'  ' + kind:<40}{it:>10.1f}" for kind, it in sorted(kinds(seconds).items())]
-    total = [sum(it) for it in zip(*parts.values())]
-    return "\n".join([*lines, f"{'all':<40}{total[0]:>10.1f}{total[1]:>8.1f}"])
+    processor, clock, _ = map(sum, zip(*parts.values(), strict=True))
+    return "\n".join([*lines, f"{'all':<40}{processor:>10.1f}{clock:>8.1f}"])
 
 
 def lines_in(crate, part, end):
@@ -94,19 +110,54 @@ def longest_chain(seconds):
     return max(best.values())
 
 
+def works(seconds):
+    """Gives the pieces of work of `rt ci`, each with its crate and its seconds: a proof with its builds, and one with
+    tests."""
+    for crate in crates.libraries():
+        yield "proof", crate, seconds.get((crate, "proof"), 0) + seconds.get((crate, "build"), 0)
+        if crates.has_tests(crate):
+            yield "tests", crate, seconds.get((crate, "tests"), 0)
+
+
+def laid_over(processors, seconds):
+    """Gives the minutes that the proofs take on so many processors that are there all the time, laid as `rt ci` lays
+    them: of the work whose libraries are there, that one first which has the longest chain before it."""
+    pending = list(works(seconds))
+    own = {crate: took for kind, crate, took in pending if kind == "proof"}
+    ahead = {}
+    for crate in sorted(own, key=lambda it: len(crates.below(it)), reverse=True):
+        users = [it for it in own if crate in crates.libraries()[it]]
+        ahead[crate] = own[crate] + max((ahead[it] for it in users), default=0)
+    pending.sort(key=lambda it: it[2] if it[0] == "tests" else ahead[it[1]], reverse=True)
+    now, busy, proved = 0, [], set()
+    while pending or busy:
+        ready = next((it for it in pending if proved.issuperset(crates.below(it[1]))), None)
+        if ready and len(busy) < processors:
+            pending.remove(ready)
+            heapq.heappush(busy, (now + ready[2], ready[:2]))
+            continue
+        now, (kind, crate) = heapq.heappop(busy)
+        if kind == "proof":
+            proved.add(crate)
+    return now / 60
+
+
 def write():
     """Writes the tables of docs/MAINTAINING.md: the parts of the last run, and each crate."""
     known = last()
     rows = sorted((row(it, known.seconds) for it in crates.libraries()), reverse=True)
     lines = []
     if known.parts:
-        lines += ["| Part of the last gate here | Processor | Clock |", "|---|---|---|"]
-        lines += [f"| `{name}` | {processor:.1f} | {clock:.1f} |" for name, (processor, clock) in known.parts.items()]
-        lines += [""]
+        lines += ["| Part of the last gate here | Processor | Clock | Withheld by the host |", "|---|---|---|---|"]
+        lines += [f"| `{name}` | {own:.1f} | {clock:.1f} | {withheld:.0%} |" for name, (own, clock, withheld) in known.parts.items()]
+        processor, clock, _ = map(sum, zip(*known.parts.values(), strict=True))
+        lines += [f"| all | {processor:.1f} | {clock:.1f} | |", ""]
     lines += ["| Of `rt ci`, where nothing is kept | Processor |", "|---|---|"]
     lines += [f"| {kind} | {it:.1f} |" for kind, it in sorted(kinds(known.seconds).items())]
     chain, names = longest_chain(known.seconds)
     lines += ["", f"The longest chain of proofs takes {chain:.1f} minutes: {', '.join(f'`{it}`' for it in names)}."]
+    two, four = laid_over(2, known.seconds), laid_over(4, known.seconds)
+    lines += ["", f"Laid over two processors that are there all the time the proofs take {two:.0f} minutes, over four {four:.0f}."]
     lines += ["", "| Crate | Proof | Tests | Builds | Functions | Code | Definitions | Proofs |", "|---|" + 7 * "---|"]
     page = crates.text_of(PAGE)
     before, _, rest = page.partition(MARKS[0])
