@@ -5,6 +5,4 @@ cd "$(dirname "$(readlink -f "${BASH_SOURCE[0]}")")/.."
 top=$PWD
 folder=$(mktemp -d)
 trap 'rm -rf "$folder"' EXIT
-
-# The programs that people call, by name.
-programs() { basename -s .txt "$top"/contrib/help/*.txt | grep -v -; }
+. "$top/contrib/programs.sh"

@@ -53,6 +53,11 @@ def text_of(file):
         return it.read()
 
 
+def crate_of(program):
+    """Gives the crate of a program: that of its name, or NAME_main, as for `macro`, whose name is a word of Rattle."""
+    return program if program in libraries() else f"{program}_main"
+
+
 @functools.lru_cache(maxsize=None)
 def logic():
     """Gives the sum of the logic that the Rattle kit proves by. Kits that share it take the same proofs."""

@@ -6,7 +6,7 @@ set -u
 wrong=0
 
 # The text of the words, from whichever stream it comes.
-said() { "crates/$1/out/$1" "${@:2}" </dev/null 2>&1; }
+said() { "$(built "$1")" "${@:2}" </dev/null 2>&1; }
 
 # A file of contrib/help, and the words whose text it has.
 same() {
@@ -25,7 +25,7 @@ for text in contrib/help/*.txt; do
     text=$(basename "$text" .txt)
     name=${text%%-*}
     command=${text#"$name"}
-    [ -x "crates/$name/out/$name" ] || { echo "help texts: $name is not built" >&2; wrong=1; continue; }
+    [ -x "$(built "$name")" ] || { echo "help texts: $name is not built" >&2; wrong=1; continue; }
     same "$text.txt" "$name" ${command#-} --help
     [ "$(said "$name" --version)" = "$name $(cat contrib/help/version)" ] || { echo "help texts: $name says another version" >&2; wrong=1; }
 done

@@ -7,7 +7,7 @@ set -u
 mkdir "$folder/there"
 ln -s "$top/examples" "$folder/there/examples"
 ln -s "$top"/examples/* "$folder/there/"
-for name in $(programs); do ln -s "$top/crates/$name/out/$name" "$folder/there/$name"; done
+for name in $(programs); do ln -s "$(built "$name")" "$folder/there/$name"; done
 wrong=0
 
 # The runs of a page: each as its line number, its command, and the file with what should be written on it.

@@ -14,6 +14,9 @@ from dataclasses import dataclass
 from pathlib import Path
 from tempfile import TemporaryDirectory
 
+sys.dont_write_bytecode = True
+import crates
+
 TOP = Path(__file__).resolve().parent.parent
 MEMORY = TOP / "tests" / "memory"
 REFUSED = 3
@@ -88,6 +91,11 @@ def cases():
     for words in (["source"], ["list"], ["words", "--to", "dense"]):
         yield Case("image", [*words, "--from", "core"], digits)
     yield Case("image", ["save", "--to", "core"], (MEMORY / "block.mac").read_bytes())
+    squares = (TOP / "examples" / "squares.mac").read_bytes()
+    yield Case("macro", [], squares)
+    yield Case("macro", ["--list", "/dev/null", "--cross", "/dev/null"], squares)
+    yield Case("macro", ["--list", "/dev/null"], b" MOVEI 1,NOWHR\n END\n", 1)
+    yield Case("macro", ["fly", "away"], b"", 2)
 
 
 class Runner:
@@ -129,7 +137,8 @@ class Runner:
 
 
 def path_of(name, named):
-    return os.path.abspath(named.get(name, f"{TOP}/crates/{name}/out/{name}"))
+    crate = crates.crate_of(name)
+    return os.path.abspath(named.get(name, f"{TOP}/crates/{crate}/out/{crate}"))
 
 
 def main(words):

@@ -19,6 +19,9 @@ from itertools import cycle, groupby
 from pathlib import Path
 from tempfile import TemporaryDirectory, TemporaryFile
 
+sys.dont_write_bytecode = True
+import crates
+
 TOP = Path(__file__).resolve().parent.parent
 MARKS = "$>|!="
 """What the lines of a run begin with, in their order."""
@@ -149,8 +152,9 @@ def furnish(there, tests):
 
 def links_of(folder, name, paths):
     """Folders in which a program stands under its name, one for each of its builds; none where one is not there."""
-    out = TOP / "crates" / name / "out"
-    paths = [paths[name]] if name in paths else [out / name, out / f"{name}.by-rattle"]
+    crate = crates.crate_of(name)
+    out = TOP / "crates" / crate / "out"
+    paths = [paths[name]] if name in paths else [out / crate, out / f"{crate}.by-rattle"]
     absent = [path for path in paths if not (path.is_file() and os.access(path, os.X_OK))]
     for path in absent:
         print(f"stored runs: {path} is no program", file=sys.stderr)

@@ -5,7 +5,7 @@
   error is told something a block marked `told`.
 - A script or a source of examples/ or tests/, NAME.queue, NAME.run or NAME.mac, has NAME.out. A comment that begins
   with `; lockmon ` has the words by which it is served. In a folder with a file of runs those without NAME.out are left
-  to .ci/stored_runs.py.
+  to .ci/stored_runs.py, and so is a source that begins with `; macro `.
 - A table NAME.queue.cases and so on has a script, ` | ` and what is written on it in each line.
 - A table NAME.rows has rows of the processor, which `lockmon` assembles and `ka_run` carries out.
 
@@ -107,6 +107,11 @@ def case_of_script(path):
     return Case(str(path), words_of(script, COMMANDS[path.suffix]), script, read(path.with_suffix(".out")))
 
 
+def is_of_macro(path):
+    """Whether a source is one of `macro`, which its first comment says: those are run by .ci/stored_runs.py."""
+    return read(path).startswith(b"; macro ")
+
+
 def spelled(place, text):
     """The bytes that one side of a row spells."""
 
@@ -149,7 +154,9 @@ def cases_of_folder(folder):
             found = list(cases_of_table(path))
             if not found:
                 raise Wrong(f"{path}: it has no case")
-        elif path.suffix in COMMANDS and (path.with_suffix(".out") in files or not with_runs & {path.parent, *path.parent.parents}):
+        elif path.suffix in COMMANDS and not is_of_macro(path) and (
+            path.with_suffix(".out") in files or not with_runs & {path.parent, *path.parent.parents}
+        ):
             found = [case_of_script(path)]
         yield from found
 

@@ -1,0 +1,124 @@
+#!/usr/bin/env python3
+"""Runs `macro` on sources that no file of runs has, and `lockmon asm` on what it writes.
+
+- Each source of tests/assembler that `lockmon asm` takes: `macro` takes it too, and what it writes has the same image.
+- What `macro` writes of the sources of tests/macro and examples/: `lockmon asm` takes it, and `macro` writes it again as it
+  stands.
+- A source of 100,000 lines.
+- Those sources with random bytes in them, put in, taken out and doubled: `macro` ends with a source or with errors, and
+  what it writes is taken.
+
+The programs are those that `rt ci` built, or those that words NAME=PATH say. What does not hold is told, and the last line
+counts what does."""
+import os
+import random
+import re
+import subprocess
+import sys
+from concurrent.futures import ThreadPoolExecutor
+from pathlib import Path
+
+sys.dont_write_bytecode = True
+import crates
+import stored_runs
+import written
+
+TOP = Path(__file__).resolve().parent.parent
+SECONDS = 120
+LINES = 100_000
+CHANGED = 2_000
+"""So many sources have random bytes."""
+PIECES = [*b"<>[](),:;=#'\"\\%.*/&!_^@+-\t\n\r \0\x7f\xff", *b"0189ABN"]
+SOURCE = re.compile(rb"(?:[^?\n][^\n]*\n)* END [0-7]+\n")
+ERRORS = re.compile(rb"(?:\?MACRO [0-9]+:[0-9]+ [A-Z-] [^\n]+\n(?: in [^\n]+ line [0-9]+\n)*(?: and [0-9]+ more\n)?)+(?:and [0-9]+ more errors\n)?")
+
+
+class Programs:
+    """The two programs, and what they make of a source."""
+
+    def __init__(self, named):
+        self.paths = {}
+        for name in ("macro", "lockmon"):
+            crate = crates.crate_of(name)
+            self.paths[name] = os.path.abspath(named.get(name, TOP / "crates" / crate / "out" / crate))
+
+    def run(self, name, words, source):
+        ran = subprocess.run([self.paths[name], *words], input=source, capture_output=True, timeout=SECONDS, check=False)
+        return ran.returncode, ran.stdout
+
+    def image(self, source):
+        """Gives the image of a source, if `lockmon asm` takes it."""
+        status, output = self.run("lockmon", ["asm"], source)
+        return output if status == 0 else None
+
+    def fault(self, source):
+        """Gives what is wrong with what `macro` writes of a source, if anything is."""
+        status, output = self.run("macro", [], source)
+        if status == 1:
+            return None if ERRORS.fullmatch(output) else f"these are no errors: {output[:200]}"
+        if status != 0 or not SOURCE.fullmatch(output):
+            return f"status {status} and no source: {output[:200]}"
+        if self.image(output) is None:
+            return "`lockmon asm` does not take what is written"
+        return None if self.run("macro", [], output) == (0, output) else "what is written is written otherwise"
+
+    def other_image(self, source):
+        """Gives what is wrong with a source of the subset, if anything is."""
+        image = self.image(source)
+        if image is None:
+            return None
+        status, output = self.run("macro", [], source)
+        return None if status == 0 and self.image(output) == image else f"another image, status {status}: {output[:200]}"
+
+
+def subset():
+    """Gives the sources of tests/assembler with their places."""
+    for case in written.cases_of_folder(TOP / "tests" / "assembler"):
+        yield case.place, case.script
+
+
+def dialect():
+    """Gives the sources of tests/macro and examples/ with their places. Those that have to reach a limit are left out."""
+    for file in sorted((TOP / "tests" / "macro").glob("*.runs")):
+        for run in stored_runs.runs_of(file) if file.stem != "limits" else ():
+            if run.texts[">"]:
+                yield f"{file.name}:{run.line}", run.texts[">"]
+    for file in sorted((TOP / "examples").glob("*.mac")):
+        yield file.name, file.read_bytes()
+
+
+def long():
+    """Gives a source of many lines, with a label, a literal, a call or a condition in each."""
+    kinds = ("L{0:05}:\tMOVE 1,[{0}.]", "\tTWO {0}.,FIRST", "IFN {0}.&1,<\tEXP .>", "A=A+{0}.", "\tJRST FIRST+{0}. ;{0}")
+    lines = ["A=0", "DEFINE TWO(X,Y)<\tEXP X,Y>", "FIRST:\t0"]
+    lines += [kinds[number % len(kinds)].format(number) for number in range(LINES - len(lines) - 1)]
+    return "\n".join([*lines, "\tEND FIRST", ""]).encode()
+
+
+def changed(sources):
+    """Gives sources with random bytes in them. They are the same in each run."""
+    chance = random.Random(10)
+    for number in range(CHANGED):
+        place, source = chance.choice(sources)
+        text = bytearray(source)
+        for _ in range(chance.randint(1, 5)):
+            at = chance.randint(0, len(text))
+            end = min(len(text), at + chance.randint(0, 4))
+            text[at:end] = chance.choice([b"", bytes([chance.choice(PIECES)]), bytes(text[at:end]) * 2])
+        yield f"{place}, change {number}", bytes(text)
+
+
+def main(words):
+    programs = Programs(dict(word.partition("=")[::2] for word in words))
+    sources = list(dialect())
+    asked = [(place, source, programs.other_image) for place, source in subset()]
+    asked += [(place, source, programs.fault) for place, source in [*sources, ("100,000 lines", long()), *changed(sources)]]
+    with ThreadPoolExecutor(len(os.sched_getaffinity(0)) + 1) as pool:
+        found = list(pool.map(lambda it: it[2](it[1]), asked))
+    wrong = [f"{place}: {fault}" for (place, _, _), fault in zip(asked, found) if fault]
+    print(*wrong, f"sources of macro: {len(asked) - len(wrong)} of {len(asked)} hold", sep="\n", file=sys.stderr)
+    return 1 if wrong else 0
+
+
+if __name__ == "__main__":
+    sys.exit(main(sys.argv[1:]))

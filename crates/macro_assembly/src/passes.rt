@@ -1,0 +1,185 @@
+//! The two passes.
+
+use crate::dispatch::carry_out;
+use crate::steps::Work;
+use macro_faults::{Failure, Fault, Told};
+use macro_names::{Name, NameReader, is_blank, is_digit, is_name_character};
+use macro_operations::{of_dialect, of_subset};
+use macro_state::Assembly;
+use std::alloc::{AllocError, Global};
+
+/// Assembles a source in two passes. What is wrong with it is told by `faults`, none of which is there where the image
+/// is that of the source.
+pub fn assemble(alloc: Global, source: &[u8]) -> Result<Assembly, AllocError> {
+    let mut state = Assembly::new(alloc, source)?;
+    find_soft_names(&mut state)?;
+    run_passes(&mut state, &mut Work::new(alloc))?;
+    if state.faults.is_empty() {
+        for at in 0..state.moved.len() {
+            if let Some(told) = state.moved.as_slice().get(at).copied() {
+                state.faults.push(told)?;
+            }
+        }
+    }
+    Ok(state)
+}
+
+/// Reads the source twice, unless a limit ends it.
+fn run_passes(state: &mut Assembly, work: &mut Work) -> Result<(), AllocError> {
+    run_pass(state, work, 1)?;
+    if state.stopped {
+        return Ok(());
+    }
+    run_pass(state, work, 2)
+}
+
+/// Reads on to the next label or statement, and carries it out. False at the end of the source.
+fn top_item(state: &mut Assembly, work: &mut Work) -> bool {
+    match state.blanks() {
+        None => return false,
+        Some(b'\n') => state.advance(b'\n'),
+        Some(b';') => state.skip_to(false),
+        Some(_) => {
+            state.forget_words();
+            carry_out(state, work);
+            state.emit_words();
+        }
+    }
+    true
+}
+
+/// Tells why a statement is not carried out.
+fn tell_failure(state: &mut Assembly, failure: Failure) -> Result<(), AllocError> {
+    match failure {
+        Failure::Memory => Err(AllocError),
+        Failure::Told(told) => state.tell(told),
+    }
+}
+
+/// Goes on behind a statement that was not carried out.
+fn recover(state: &mut Assembly, failure: Failure) -> Result<(), AllocError> {
+    tell_failure(state, failure)?;
+    state.settle();
+    if !state.stopped {
+        state.skip_line();
+        if let Some(failure) = state.failure {
+            tell_failure(state, failure)?;
+            state.settle();
+        }
+    }
+    state.text_due = false;
+    Ok(())
+}
+
+/// The source is at its end, with no END.
+fn end_source(state: &mut Assembly) -> Result<(), AllocError> {
+    let place = state.stream.place();
+    state.tell(Told {
+        place,
+        fault: Fault::NoEnd,
+    })
+}
+
+/// Reads the source once.
+fn run_pass(state: &mut Assembly, work: &mut Work, pass: u8) -> Result<(), AllocError> {
+    state.begin_pass(pass);
+    let mut is_clean = true;
+    for _ in 0..u64::MAX {
+        if state.ended || state.stopped {
+            break;
+        }
+        let goes_on = top_item(state, work);
+        if let Some(failure) = state.failure {
+            recover(state, failure)?;
+            is_clean = false;
+        } else if goes_on {
+            is_clean = true;
+        } else {
+            if is_clean {
+                end_source(state)?;
+            }
+            state.ended = true;
+        }
+    }
+    Ok(())
+}
+
+/// What a run of name characters at a place of the source is.
+#[derive(Clone, Copy)]
+struct Run {
+    name: Name,
+    end: usize,
+    is_name: bool,
+}
+
+/// The character at a place of the source, a line end behind it.
+fn source_character(state: &Assembly, at: usize) -> u8 {
+    if at >= state.stream.source_len() {
+        return b'\n';
+    }
+    match state.stream.items().get(at) {
+        Some(item) if *item < 256 => *item as u8,
+        Some(_) | None => b'\n',
+    }
+}
+
+/// The run of name characters behind blanks from a place on.
+fn run_at(state: &Assembly, from: usize) -> Run {
+    let mut name = NameReader::new();
+    let mut count = 0usize;
+    let mut first = b' ';
+    let mut end = from;
+    for at in from..state.stream.source_len() {
+        let character = source_character(state, at);
+        end = at;
+        if is_name_character(character) {
+            if count == 0 {
+                first = character;
+            }
+            count = count.saturating_add(1);
+            name.push(character);
+        } else if !is_blank(character) || count > 0 {
+            break;
+        }
+        end = at.saturating_add(1);
+    }
+    Run {
+        name: name.name(),
+        end,
+        is_name: count > 0 && !is_digit(first),
+    }
+}
+
+/// Finds the names that stand as labels in the source, up to the line with END, and that only the dialect has as
+/// operations.
+fn find_soft_names(state: &mut Assembly) -> Result<(), AllocError> {
+    let mut at = 0usize;
+    let mut in_line = false;
+    for _ in 0..state.stream.source_len() {
+        if at >= state.stream.source_len() {
+            break;
+        }
+        if in_line {
+            in_line = source_character(state, at) != b'\n';
+            at = at.saturating_add(1);
+            continue;
+        }
+        let run = run_at(state, at);
+        at = run.end;
+        if run.is_name && source_character(state, at) == b':' {
+            at = at.saturating_add(1);
+            if of_dialect(run.name).is_some()
+                && of_subset(run.name).is_none()
+                && !state.is_soft(run.name)
+            {
+                state.soft.push(run.name)?;
+            }
+        } else {
+            if run.is_name && run.name == Name::of(b"END") {
+                break;
+            }
+            in_line = true;
+        }
+    }
+    Ok(())
+}

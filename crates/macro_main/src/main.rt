@@ -1,0 +1,29 @@
+//! The program `macro`: a source in MACRO-10 to a source of its words, with a listing and a cross-reference where they are
+//! wanted.
+#![tactic(auto)]
+
+use macro_program::{FAILURE_LINES, program};
+use program_shell::{arguments_of, unread_arguments};
+use script_io::{HostIn, HostOut};
+use std::process::ExitCode;
+
+fn main(rt: HostRuntime) -> ExitCode {
+    let mut errors = HostOut::new(rt.stderr());
+    let arguments = match arguments_of(&rt) {
+        Ok(arguments) => arguments,
+        Err(error) => {
+            let status = unread_arguments(error.kind(), FAILURE_LINES.memory, &mut errors);
+            return ExitCode::from(status);
+        }
+    };
+    let mut reader = HostIn::new(rt.stdin());
+    let mut writer = HostOut::new(rt.stdout());
+    let status = program(
+        &rt,
+        arguments.as_slice(),
+        &mut reader,
+        &mut writer,
+        &mut errors,
+    );
+    ExitCode::from(status)
+}

@@ -1,0 +1,249 @@
+//! Numbers, quoted characters, and bits behind values.
+
+use crate::operators::as_word;
+use macro_faults::Fault;
+use macro_names::{is_digit, is_name_character, sixbit_of};
+use macro_state::{Assembly, Value};
+use macro_stream::Place;
+use macro_values::shift;
+
+/// Whether a digit was read that a radix does not have.
+fn has_other_digit(digits: &[u8], radix: u8) -> bool {
+    for digit in digits {
+        if digit.saturating_sub(b'0') >= radix {
+            return true;
+        }
+    }
+    false
+}
+
+/// The value in a radix of the digits that were read.
+fn digits_value(state: &mut Assembly, radix: u8, place: Place) -> Value {
+    if has_other_digit(state.digits.as_slice(), radix) {
+        state.fail(place, Fault::Digit(radix));
+        return Value::unknown(false);
+    }
+    let radix = radix.min(10);
+    match state
+        .numbers
+        .of_digits(state.alloc, radix, state.digits.as_slice())
+    {
+        Ok(number) => Value {
+            number: Some(number),
+            placed: false,
+        },
+        Err(_) => {
+            state.out_of_memory();
+            Value::unknown(false)
+        }
+    }
+}
+
+/// Whether the character that is next begins an exponent or a fraction.
+fn is_floating(next: Option<u8>) -> bool {
+    match next {
+        Some(other) => is_digit(other) || other == b'E' || other == b'e',
+        None => false,
+    }
+}
+
+/// A term of one part: a number, or characters in quotes, which begins with this character.
+pub fn plain_value(state: &mut Assembly, next: Option<u8>, place: Place) -> Value {
+    match next {
+        Some(quote) if quote == b'"' || quote == b'\'' => quoted(state, quote, place),
+        Some(digit) if is_digit(digit) => plain_number(state, place),
+        Some(_) | None => {
+            state.unexpected();
+            Value::unknown(false)
+        }
+    }
+}
+
+/// `.`: the place of the statement.
+pub fn dot_value(state: &mut Assembly) -> Value {
+    state.advance(b'.');
+    Value::signed(state.dot, true)
+}
+
+/// A number that begins with a digit, in the radix of the numbers, or in decimal where `.` stands behind it.
+fn plain_number(state: &mut Assembly, place: Place) -> Value {
+    state.read_digits();
+    let mut radix = state.number_radix;
+    match state.peek() {
+        Some(b'.') => {
+            state.advance(b'.');
+            radix = 10;
+            if is_floating(state.peek()) {
+                state.fail(place, Fault::Float);
+            }
+        }
+        Some(b'E' | b'e') => state.fail(place, Fault::Float),
+        Some(_) | None => (),
+    }
+    digits_value(state, radix, place)
+}
+
+/// A number in digits, which has to be next, in a radix.
+pub fn digits_in(state: &mut Assembly, radix: u8, place: Place) -> Value {
+    match state.peek() {
+        Some(digit) if is_digit(digit) => {
+            state.read_digits();
+            digits_value(state, radix, place)
+        }
+        Some(_) | None => {
+            state.unexpected();
+            Value::unknown(false)
+        }
+    }
+}
+
+/// The radix that a letter behind `^` stands for.
+fn radix_of(letter: u8) -> Option<u8> {
+    match letter {
+        b'D' | b'd' => Some(10),
+        b'O' | b'o' => Some(8),
+        b'B' | b'b' => Some(2),
+        _ => None,
+    }
+}
+
+/// The radix behind `^`; goes on behind it.
+pub fn marked_radix(state: &mut Assembly, place: Place) -> u8 {
+    state.advance(b'^');
+    let letter = state.peek().unwrap_or(b' ');
+    match letter {
+        b'F' | b'f' | b'L' | b'l' => state.fail(place, Fault::Float),
+        _ => match radix_of(letter) {
+            Some(radix) => {
+                state.advance(letter);
+                return radix;
+            }
+            None => state.unexpected(),
+        },
+    }
+    10
+}
+
+/// The radix of a bit number: 10, or what stands behind `^`.
+pub fn bit_radix(state: &mut Assembly, place: Place) -> u8 {
+    if state.peek() == Some(b'^') {
+        return marked_radix(state, place);
+    }
+    10
+}
+
+/// The place of what is next, where nothing is passed over.
+pub fn next_place(state: &mut Assembly) -> Place {
+    state.peek();
+    state.place()
+}
+
+/// Whether `B` and a bit number are next, given the two characters.
+fn is_bits(next: u8, second: Option<u8>) -> bool {
+    let follows = match second {
+        Some(other) => is_digit(other) || other == b'<' || other == b'^',
+        None => false,
+    };
+    (next == b'B' || next == b'b') && follows
+}
+
+/// Goes on behind the `B` of a bit number that is next behind a value; gives its place. None where no bit number is next.
+pub fn take_bits(state: &mut Assembly, start: Place) -> Option<Place> {
+    let next = match state.peek() {
+        Some(next) if is_name_character(next) => next,
+        Some(_) | None => return None,
+    };
+    if !is_bits(next, state.second()) {
+        state.fail(start, Fault::Digit(state.number_radix));
+        return None;
+    }
+    let place = state.place();
+    state.advance(next);
+    Some(place)
+}
+
+/// A value with its last bit at this bit. `start` is where the value begins, `place` that of `B`.
+pub fn moved(state: &mut Assembly, value: Value, bit: Value, start: Place, place: Place) -> Value {
+    match state.peek() {
+        Some(next) if is_name_character(next) => state.fail(
+            start,
+            Fault::Digit(state.number_radix),
+        ),
+        Some(_) | None => (),
+    }
+    let placed = value.placed || bit.placed;
+    let word = as_word(state, value, start);
+    let Some(bit) = state.known(bit) else {
+        return Value::unknown(placed);
+    };
+    if bit < 0 || bit > 35 {
+        state.fail(place, Fault::BitNumber);
+        return Value::unknown(placed);
+    }
+    let word = match word {
+        Some(word) => Some(shift(word, 35 - bit)),
+        None => None,
+    };
+    Value::of_word(word, placed)
+}
+
+/// The code of a quoted character.
+fn code_of(state: &mut Assembly, quote: u8, character: u8, place: Place) -> i64 {
+    if quote == b'"' {
+        return i64::from(character);
+    }
+    match sixbit_of(character) {
+        Some(code) => i64::from(code),
+        None => {
+            state.fail(place, Fault::NoSixbit);
+            0
+        }
+    }
+}
+
+/// The next character between quotes; the quote written twice stands for itself. None behind the last.
+fn quoted_character(state: &mut Assembly, quote: u8, place: Place) -> Option<u8> {
+    let character = match state.peek() {
+        None | Some(b'\n') => {
+            state.fail(place, Fault::NoQuote(quote));
+            return None;
+        }
+        Some(character) => character,
+    };
+    state.advance(character);
+    if character == quote {
+        if state.peek() != Some(quote) {
+            return None;
+        }
+        state.advance(quote);
+    }
+    Some(character)
+}
+
+/// Characters between quotes, right-justified.
+fn quoted(state: &mut Assembly, quote: u8, place: Place) -> Value {
+    state.advance(quote);
+    let (step, most) = if quote == b'"' {
+        (128i64, 5)
+    } else {
+        (64i64, 6)
+    };
+    let mut value = 0i64;
+    let mut count = 0u32;
+    for _ in 0..8 {
+        let Some(character) = quoted_character(state, quote, place) else {
+            break;
+        };
+        if count >= most {
+            count = 0;
+            break;
+        }
+        count = count.saturating_add(1);
+        let code = code_of(state, quote, character, place);
+        value = value.wrapping_mul(step).wrapping_add(code);
+    }
+    if count == 0 {
+        state.fail(place, Fault::NoQuote(quote));
+    }
+    Value::signed(value, false)
+}

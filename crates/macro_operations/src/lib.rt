@@ -1,0 +1,8 @@
+//! What names stand for in MACRO-10 where a source gives them no meaning of its own.
+#![tactic(auto)]
+
+mod kinds;
+mod tables;
+
+pub use kinds::{BuiltIn, Operation, Pseudo, Test, Text};
+pub use tables::{built_in, is_refused, of_dialect, of_subset, of_uuosym};

@@ -1,0 +1,195 @@
+//! The names that are built in, six characters of each.
+
+use crate::kinds::{BuiltIn, Operation, Pseudo, Test, Text};
+use ka_isa::{Named, named, operation_of_key};
+use macro_names::{Name, text_of};
+use word36::Word;
+
+static SUBSET: [(&str, Pseudo); 14] = [
+    ("LOC", Pseudo::Loc),
+    ("END", Pseudo::End),
+    ("RADIX", Pseudo::Radix),
+    ("TITLE", Pseudo::Title),
+    ("SUBTTL", Pseudo::Title),
+    ("SEARCH", Pseudo::Search),
+    ("XWD", Pseudo::Xwd),
+    ("IOWD", Pseudo::Iowd),
+    ("EXP", Pseudo::Exp),
+    ("POINT", Pseudo::Point),
+    ("ASCII", Pseudo::Text(Text::Ascii)),
+    ("ASCIZ", Pseudo::Text(Text::Asciz)),
+    ("SIXBIT", Pseudo::Text(Text::Sixbit)),
+    ("BLOCK", Pseudo::Block),
+];
+
+static DIALECT: [(&str, Pseudo); 61] = [
+    ("OCT", Pseudo::Oct),
+    ("DEC", Pseudo::Dec),
+    ("BYTE", Pseudo::Byte),
+    ("RADIX5", Pseudo::Radix50),
+    ("SQUOZE", Pseudo::Radix50),
+    ("RELOC", Pseudo::Reloc),
+    ("PHASE", Pseudo::Phase),
+    ("DEPHAS", Pseudo::Dephase),
+    ("LIT", Pseudo::Lit),
+    ("VAR", Pseudo::Var),
+    ("OPDEF", Pseudo::Opdef),
+    ("SYN", Pseudo::Syn),
+    ("PURGE", Pseudo::Purge),
+    ("COMMEN", Pseudo::Comment),
+    ("REMARK", Pseudo::Remark),
+    ("PAGE", Pseudo::Remark),
+    ("INTERN", Pseudo::Remark),
+    ("ENTRY", Pseudo::Remark),
+    ("SUPPRE", Pseudo::Remark),
+    ("ASUPPR", Pseudo::Remark),
+    ("NOSYM", Pseudo::Remark),
+    ("MLON", Pseudo::Quiet),
+    ("MLOFF", Pseudo::Quiet),
+    (".CREF", Pseudo::Quiet),
+    (".XCREF", Pseudo::Quiet),
+    (".DIREC", Pseudo::Quiet),
+    ("PRINTX", Pseudo::Printx),
+    ("LIST", Pseudo::List),
+    ("XLIST", Pseudo::Xlist),
+    ("LALL", Pseudo::Lall),
+    ("SALL", Pseudo::Sall),
+    ("XALL", Pseudo::Xall),
+    ("DEFINE", Pseudo::Define),
+    ("REPEAT", Pseudo::Repeat),
+    ("IRP", Pseudo::Irp(false)),
+    ("IRPC", Pseudo::Irp(true)),
+    ("STOPI", Pseudo::Stopi),
+    ("IFE", Pseudo::If(Test::Equal)),
+    ("IFN", Pseudo::If(Test::Unequal)),
+    ("IFG", Pseudo::If(Test::Greater)),
+    ("IFGE", Pseudo::If(Test::NotLess)),
+    ("IFL", Pseudo::If(Test::Less)),
+    ("IFLE", Pseudo::If(Test::NotGreater)),
+    ("IFDEF", Pseudo::IfDefined(true)),
+    ("IFNDEF", Pseudo::IfDefined(false)),
+    ("IFIDN", Pseudo::IfSame(true)),
+    ("IFDIF", Pseudo::IfSame(false)),
+    ("IFB", Pseudo::IfBlank(true)),
+    ("IFNB", Pseudo::IfBlank(false)),
+    ("IF1", Pseudo::IfPass(1)),
+    ("IF2", Pseudo::IfPass(2)),
+    ("EXTERN", Pseudo::Extern),
+    (".REQUE", Pseudo::Extern),
+    (".TEXT", Pseudo::Extern),
+    (".LINK", Pseudo::Extern),
+    ("TWOSEG", Pseudo::Segments),
+    ("HISEG", Pseudo::Segments),
+    (".PSECT", Pseudo::Segments),
+    ("UNIVER", Pseudo::Universal),
+    ("PRGEND", Pseudo::Universal),
+    ("", Pseudo::Quiet),
+];
+
+static OPERATIONS: [(&str, u64); 13] = [
+    ("Z", 0o0),
+    ("OR", 0o434000000000),
+    ("ORI", 0o435000000000),
+    ("ORM", 0o436000000000),
+    ("ORB", 0o437000000000),
+    ("CLEAR", 0o400000000000),
+    ("CLEARI", 0o401000000000),
+    ("CLEARM", 0o402000000000),
+    ("CLEARB", 0o403000000000),
+    ("JOV", 0o255400000000),
+    ("JCRY", 0o255300000000),
+    ("JCRY0", 0o255200000000),
+    ("JCRY1", 0o255100000000),
+];
+
+/// Names that are refused where the source gives them no meaning of its own.
+static REFUSED: [&str; 16] = [
+    "ARRAY", "INTEGE", "PASS2", "TAPE", ".IF", "CALL", "DIV", "DIVI", "DIVM", "DIVB", "ASHC",
+    "DMOVE", "DMOVEM", "DATAI", "DATAO", "CONO",
+];
+
+fn find(table: &[(&'static str, Pseudo)], name: &str) -> Option<Pseudo> {
+    for (known, pseudo) in table {
+        if *known == name && !name.is_empty() {
+            return Some(*pseudo);
+        }
+    }
+    None
+}
+
+/// What the assembler of the subset means by a name.
+fn operation(named: Named) -> Option<BuiltIn> {
+    Some(BuiltIn::Operation(Operation {
+        word: Some(named.word),
+        accumulator: named.ac,
+        address: named.addr,
+    }))
+}
+
+/// What the subset knows by this name.
+pub fn of_subset(name: Name) -> Option<BuiltIn> {
+    if let Some(named) = operation_of_key(name.sixbit()) {
+        return operation(named);
+    }
+    let characters = text_of(name);
+    let text = std::str::from_utf8(characters.as_slice()).unwrap_or("");
+    if let Some(named) = named(text) {
+        return operation(named);
+    }
+    match find(&SUBSET, text) {
+        Some(pseudo) => Some(BuiltIn::Pseudo(pseudo)),
+        None => None,
+    }
+}
+
+/// What the dialect knows by this name beyond the subset.
+pub fn of_dialect(name: Name) -> Option<BuiltIn> {
+    let characters = text_of(name);
+    let text = std::str::from_utf8(characters.as_slice()).unwrap_or("");
+    if let Some(pseudo) = find(&DIALECT, text) {
+        return Some(BuiltIn::Pseudo(pseudo));
+    }
+    for (known, word) in &OPERATIONS {
+        if *known == text {
+            let operation = Operation {
+                word: Some(Word::low_bits(*word)),
+                accumulator: word / 0o1_000_000_000 != 0o255,
+                address: true,
+            };
+            return Some(BuiltIn::Operation(operation));
+        }
+    }
+    None
+}
+
+/// What a name is without a meaning that the source gives it.
+pub fn built_in(name: Name) -> Option<BuiltIn> {
+    match of_subset(name) {
+        Some(built_in) => Some(built_in),
+        None => of_dialect(name),
+    }
+}
+
+/// Whether a name is refused where the source gives it no meaning.
+pub fn is_refused(name: Name) -> bool {
+    let characters = text_of(name);
+    let text = std::str::from_utf8(characters.as_slice()).unwrap_or("");
+    for known in &REFUSED {
+        if *known == text {
+            return true;
+        }
+    }
+    false
+}
+
+/// What SEARCH UUOSYM defines.
+pub fn of_uuosym(name: Name) -> Option<u64> {
+    let characters = text_of(name);
+    match characters.as_slice() {
+        b".ENQBL" | b".DEQDR" | b".ENQCS" => Some(0),
+        b".ENQAA" | b".DEQDA" | b".ENQCG" => Some(1),
+        b".ENQSI" | b".DEQID" | b".ENQCC" => Some(2),
+        b".ENQMA" => Some(3),
+        _ => None,
+    }
+}

@@ -1,0 +1,12 @@
+//! What an assembly of MACRO-10 writes: the source of the subset, what is wrong, the listing, the cross-reference.
+#![tactic(auto)]
+
+mod cross;
+mod listings;
+mod told;
+mod written;
+
+pub use cross::push_cross;
+pub use listings::push_listing;
+pub use told::push_faults;
+pub use written::{Written, source_of};

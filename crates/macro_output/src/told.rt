@@ -1,0 +1,60 @@
+//! What is wrong with a source.
+
+use macro_faults::{Told, push_told};
+use macro_stream::Around;
+use script_io::push_decimal;
+use std::alloc::{AllocError, Global};
+
+/// How many faults are written.
+const MOST_WRITTEN: usize = 20;
+
+/// The place of a fault, by which faults are sorted, and its index.
+#[derive(Clone, Copy, PartialEq, Eq, PartialOrd, Ord)]
+struct FaultKey {
+    line: u32,
+    column: u32,
+    index: usize,
+}
+
+/// The faults by line and column.
+pub fn sorted_faults(alloc: Global, faults: &[Told]) -> Result<Vec<Told>, AllocError> {
+    let mut keys = Vec::new(alloc);
+    for (index, told) in faults.iter().enumerate() {
+        keys.push(FaultKey {
+            line: told.place.line,
+            column: told.place.column,
+            index,
+        })?;
+    }
+    keys.sort()?;
+    let mut sorted = Vec::new(alloc);
+    for key in &keys {
+        if let Some(told) = faults.get(key.index) {
+            sorted.push(*told)?;
+        }
+    }
+    Ok(sorted)
+}
+
+/// Adds the faults by line and column, at most twenty of them, and how many more there are; `outer` are the texts around
+/// places that the stream kept.
+pub fn push_faults(
+    out: &mut Vec<u8>,
+    alloc: Global,
+    faults: &[Told],
+    outer: &[Around],
+) -> Result<(), AllocError> {
+    let sorted = sorted_faults(alloc, faults)?;
+    let mut written = 0usize;
+    for told in &sorted {
+        if written >= MOST_WRITTEN {
+            out.extend_from_slice(b"and ")?;
+            push_decimal(out, sorted.len().saturating_sub(written))?;
+            out.extend_from_slice(b" more errors\n")?;
+            return Ok(());
+        }
+        push_told(out, told, outer)?;
+        written += 1;
+    }
+    Ok(())
+}

@@ -1,0 +1,252 @@
+//! The whole program over any ports.
+ghost use Rattle.std.specs.Prelude.{◌≡◌, false, IfOk};
+
+use crate::arguments::{Options, read_arguments};
+use macro_assembly::assemble;
+use macro_output::{Written, push_cross, push_faults, push_listing, source_of};
+use macro_state::Assembly;
+use program_shell::{
+    DONE, FAILED, Failure, FailureLines, REFUSED, read_whole, refuse_arguments, report_failure,
+    report_to, write_output,
+};
+use script_io::{ByteIn, ByteOut, write_all};
+use std::alloc::{AllocError, Global};
+use std::convert::AsStr;
+use std::rt::Files;
+use std::{fs, io};
+
+/// The lines by which the program reports a failure.
+pub const FAILURE_LINES: FailureLines = FailureLines {
+    read: b"macro: read\n",
+    write: b"macro: write\n",
+    memory: b"macro: memory\n",
+};
+
+/// What is told where the words of a source are not those that are read back.
+const NOT_READ_BACK: &[u8] =
+    b"macro: a fault of this program: what it wrote does not assemble to the words of the source\n";
+
+/// What is written of a source.
+#[derive(Drop)]
+struct Output {
+    /// For standard output.
+    text: Text,
+    /// The listing, if it is wanted.
+    listing: Option<Vec<u8>>,
+    /// The cross-reference, if it is wanted and the source is not refused.
+    cross: Option<Vec<u8>>,
+}
+
+/// What goes to standard output for an assembly.
+#[derive(Drop)]
+enum Text {
+    /// The source of its words, which assembles to them.
+    Words(Written),
+    /// What is wrong with its source.
+    Errors(Vec<u8>),
+    /// Its words are not those to which what was written for them assembles.
+    NotReadBack,
+}
+
+impl Text {
+    fn as_bytes(&self) -> &[u8] {
+        match self {
+            Text::Words(written) => written.text.as_slice(),
+            Text::Errors(text) => text.as_slice(),
+            Text::NotReadBack => b"",
+        }
+    }
+}
+
+/// The source of the words of an assembly, or what is wrong with it.
+fn text_of(alloc: Global, state: &Assembly) -> Result<Text, AllocError> {
+    if !state.faults.is_empty() {
+        let mut text = Vec::new(alloc);
+        push_faults(
+            &mut text,
+            alloc,
+            state.faults.as_slice(),
+            state.stream.around(),
+        )?;
+        return Ok(Text::Errors(text));
+    }
+    match source_of(state)? {
+        Some(written) => Ok(Text::Words(written)),
+        None => Ok(Text::NotReadBack),
+    }
+}
+
+/// The listing of a source.
+fn listing_of(alloc: Global, state: &Assembly, source: &[u8]) -> Result<Vec<u8>, AllocError> {
+    let mut text = Vec::new(alloc);
+    push_listing(&mut text, state, source)?;
+    Ok(text)
+}
+
+/// The cross-reference of an assembly.
+fn cross_of(alloc: Global, state: &Assembly) -> Result<Vec<u8>, AllocError> {
+    let mut text = Vec::new(alloc);
+    push_cross(&mut text, state)?;
+    Ok(text)
+}
+
+/// What is written of a source that is assembled.
+fn output_of(
+    alloc: Global,
+    options: &Options,
+    state: &Assembly,
+    source: &[u8],
+) -> Result<Output, AllocError> {
+    let text = text_of(alloc, state)?;
+    let is_refused = !state.faults.is_empty();
+    let listing = if options.list.is_some() {
+        Some(listing_of(alloc, state, source)?)
+    } else {
+        None
+    };
+    let cross = if options.cross.is_some() && !is_refused {
+        Some(cross_of(alloc, state)?)
+    } else {
+        None
+    };
+    Ok(Output {
+        text,
+        listing,
+        cross,
+    })
+}
+
+/// Reports what is wrong with a file, and gives the exit status.
+fn report_file<E: ByteOut>(alloc: Global, file: &str, error: io::Error, errors: &mut E) -> u8
+    requires { E.has_failed errors.old ≡ false }
+{
+    match format!(in alloc; "macro: {file}: {error}\n") {
+        Ok(text) => report_to(errors, text.as_str().as_bytes(), FAILED),
+        Err(_) => report_failure(errors, &FAILURE_LINES, Failure::Memory),
+    }
+}
+
+/// The source of the file, if one is named, or of the reader; or the exit status where it cannot be read, which is
+/// reported.
+fn read_source<F: Files + AllocGlobal, R: ByteIn, E: ByteOut>(
+    rt: &F,
+    file: &Option<String>,
+    reader: &mut R,
+    errors: &mut E,
+) -> Result<Vec<u8>, u8>
+    requires reader_sound { R.has_failed reader.old ≡ false }
+    requires errors_sound { E.has_failed errors.old ≡ false }
+    ensures { IfOk result (λ _. E.has_failed errors.new ≡ false) }
+{
+    let alloc = rt.alloc();
+    match file {
+        Some(file) => match fs::read(rt, file.as_str()) {
+            Ok(source) => Ok(source),
+            Err(error) => Err(report_file(alloc, file.as_str(), error, errors)),
+        },
+        None => match read_whole(alloc, reader, usize::MAX) {
+            Ok(source) => Ok(source),
+            Err(failure) => Err(report_failure(errors, &FAILURE_LINES, failure)),
+        },
+    }
+}
+
+/// Writes a text to a file, where there is one and it is wanted; or gives the exit status where that fails, which is
+/// reported.
+fn write_file<F: Files + AllocGlobal, E: ByteOut>(
+    rt: &F,
+    file: &Option<String>,
+    text: &Option<Vec<u8>>,
+    errors: &mut E,
+) -> Result<(), u8>
+    requires { E.has_failed errors.old ≡ false }
+    ensures { IfOk result (λ _. E.has_failed errors.new ≡ false) }
+{
+    let (Some(file), Some(text)) = (file, text) else {
+        return Ok(());
+    };
+    match fs::write(rt, file.as_str(), text.as_slice()) {
+        Ok(()) => Ok(()),
+        Err(error) => Err(report_file(rt.alloc(), file.as_str(), error, errors)),
+    }
+}
+
+/// Writes the listing and the cross-reference to their files, and then what goes to the output; gives the exit status.
+fn write_all_of<F: Files + AllocGlobal, W: ByteOut, E: ByteOut>(
+    rt: &F,
+    options: &Options,
+    output: &Output,
+    writer: &mut W,
+    errors: &mut E,
+) -> u8
+    requires writer_sound { W.has_failed writer.old ≡ false }
+    requires errors_sound { E.has_failed errors.old ≡ false }
+{
+    if matches!(&output.text, Text::NotReadBack) {
+        return report_to(errors, NOT_READ_BACK, FAILED);
+    }
+    if let Err(status) = write_file(rt, &options.list, &output.listing, errors) {
+        return status;
+    }
+    if let Err(status) = write_file(rt, &options.cross, &output.cross, errors) {
+        return status;
+    }
+    let status = write_output(writer, output.text.as_bytes(), &FAILURE_LINES, errors);
+    match output.text {
+        Text::Errors(_) if status == DONE => REFUSED,
+        _ => status,
+    }
+}
+
+/// Assembles a source, and writes what the options ask for; gives the exit status. The lines of PRINTX go to `errors`
+/// first.
+fn answer<F: Files + AllocGlobal, W: ByteOut, E: ByteOut>(
+    rt: &F,
+    options: &Options,
+    source: &[u8],
+    writer: &mut W,
+    errors: &mut E,
+) -> u8
+    requires writer_sound { W.has_failed writer.old ≡ false }
+    requires errors_sound { E.has_failed errors.old ≡ false }
+{
+    let alloc = rt.alloc();
+    let Ok(state) = assemble(alloc, source) else {
+        return report_failure(errors, &FAILURE_LINES, Failure::Memory);
+    };
+    let Ok(output) = output_of(alloc, options, &state, source) else {
+        return report_failure(errors, &FAILURE_LINES, Failure::Memory);
+    };
+    if write_all(errors, state.typed.as_slice()).is_err() {
+        return FAILED;
+    }
+    write_all_of(rt, options, &output, writer, errors)
+}
+
+/// Reads the source of the file that the arguments name, or of the reader, assembles it, and writes the source of its
+/// words, or what is wrong with it, to `writer`; the listing and the cross-reference to the files that the arguments name
+/// for them; and the lines of PRINTX to `errors`. They begin with the program's name. Where they ask for the help or the
+/// version, it writes that, and reads nothing. It gives the exit status: 0 where all was written; 1 where the source is
+/// refused, and 2 where the arguments are, which is reported to `errors`; 3 where a file, the reader, an output or memory
+/// failed.
+pub fn program<F: Files + AllocGlobal, S: AsStr, R: ByteIn, W: ByteOut, E: ByteOut>(
+    rt: &F,
+    arguments: &[S],
+    reader: &mut R,
+    writer: &mut W,
+    errors: &mut E,
+) -> u8
+    requires reader_sound { R.has_failed reader.old ≡ false }
+    requires writer_sound { W.has_failed writer.old ≡ false }
+    requires errors_sound { E.has_failed errors.old ≡ false }
+{
+    let alloc = rt.alloc();
+    let options = match read_arguments(alloc, arguments) {
+        Ok(options) => options,
+        Err(refusal) => return refuse_arguments(alloc, refusal, &FAILURE_LINES, writer, errors),
+    };
+    match read_source(rt, &options.file, reader, errors) {
+        Ok(source) => answer(rt, &options, source.as_slice(), writer, errors),
+        Err(status) => status,
+    }
+}

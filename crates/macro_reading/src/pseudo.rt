@@ -1,0 +1,283 @@
+//! Pseudo-operations that give no words.
+
+use crate::calls::define;
+use macro_faults::Fault;
+use macro_names::{Name, is_blank};
+use macro_operands::{as_word, required, set_phase, set_place};
+use macro_operations::{Pseudo, built_in};
+use macro_state::{Assembly, Value};
+use macro_stream::Place;
+use macro_symbols::Meaning;
+use word36::Word;
+
+/// Carries out a pseudo-operation that has no expression.
+pub fn plain_directive(state: &mut Assembly, pseudo: Pseudo, name: Name) {
+    if state.is_failed() {
+        return;
+    }
+    match pseudo {
+        Pseudo::Title => state.skip_to(true),
+        Pseudo::Remark | Pseudo::Quiet => state.skip_to(false),
+        Pseudo::Search => search(state),
+        Pseudo::Syn => syn(state, name),
+        Pseudo::Purge => purge(state, name),
+        Pseudo::Printx => printx(state),
+        Pseudo::Define => define(state),
+        Pseudo::Extern => state.fail_statement(Fault::Linking(name, false)),
+        Pseudo::Segments => state.fail_statement(Fault::Segments(name)),
+        Pseudo::Universal => state.fail_statement(Fault::Universal(name)),
+        other => bare_directive(state, other, name),
+    }
+}
+
+/// Carries out a pseudo-operation that stands alone.
+fn bare_directive(state: &mut Assembly, pseudo: Pseudo, name: Name) {
+    match pseudo {
+        Pseudo::Dephase => state.phase = None,
+        Pseudo::Lit => state.place_pool(),
+        Pseudo::Var => state.place_variables(),
+        Pseudo::Stopi => {
+            if !state.stream.stop_rounds() {
+                state.fail_statement(Fault::StopiOutside);
+            }
+        }
+        Pseudo::List | Pseudo::Xlist | Pseudo::Lall | Pseudo::Sall | Pseudo::Xall => set_listing(
+            state, pseudo,
+        ),
+        _ => state.fail_statement(Fault::Needs(name)),
+    }
+}
+
+/// LIST, XLIST, LALL, SALL and XALL.
+fn set_listing(state: &mut Assembly, pseudo: Pseudo) {
+    if state.pass == 2 {
+        let line = state.stream.source_line();
+        let done = state.listing.set(pseudo, line).is_ok();
+        state.kept(done);
+    }
+    state.skip_to(false)
+}
+
+/// Whether a pseudo-operation has an expression behind it, and gives no words but those of BLOCK.
+pub fn takes_value(pseudo: Pseudo) -> bool {
+    match pseudo {
+        Pseudo::Loc | Pseudo::Reloc | Pseudo::Phase | Pseudo::Block | Pseudo::End => true,
+        _ => false,
+    }
+}
+
+/// Carries out a pseudo-operation whose expression is read.
+pub fn value_directive(
+    state: &mut Assembly,
+    pseudo: Pseudo,
+    name: Name,
+    value: Option<Value>,
+    in_literal: bool,
+) {
+    match pseudo {
+        Pseudo::Loc => set_place(state, value, name, true),
+        Pseudo::Reloc => set_place(state, value, name, false),
+        Pseudo::Phase => set_phase(state, value, name),
+        Pseudo::Block => keep_places(state, value, name, in_literal),
+        _ => end(state, value),
+    }
+}
+
+/// BLOCK: keeps places, in a literal as words of 0.
+fn keep_places(state: &mut Assembly, value: Option<Value>, name: Name, in_literal: bool) {
+    let number = required(state, value, name, Fault::Needs(name));
+    if !in_literal {
+        return state.emit_space(number);
+    }
+    if number <= 0 || number > 0o1_000_000 {
+        return state.fail_statement(Fault::BlockInLiteral);
+    }
+    for _ in 0..number {
+        state.push_word(Some(Word::new(0)));
+    }
+}
+
+/// Whether the line ends here, as it has to behind END.
+fn is_line_end(state: &mut Assembly) -> bool {
+    match state.blanks() {
+        None | Some(b'\n' | b';') => !state.is_failed(),
+        Some(found) => {
+            state.fail_here(Fault::ExpectedEnd(found));
+            false
+        }
+    }
+}
+
+/// Sets the start of the program.
+fn set_start(state: &mut Assembly, number: i64) {
+    if number < 0 || number > 0o777_777 {
+        return state.fail_statement(Fault::Start);
+    }
+    state.start = number as u32;
+}
+
+/// END: the start, then variables and literals.
+fn end(state: &mut Assembly, start: Option<Value>) {
+    if !is_line_end(state) {
+        return;
+    }
+    state.ended = true;
+    let line = state.stream.source_line();
+    let done = state.listing.end(line).is_ok();
+    state.kept(done);
+    state.skip_to(false);
+    if let Some(value) = start {
+        if let Some(number) = state.known(value) {
+            set_start(state, number);
+        }
+    }
+    if !state.is_failed() {
+        state.phase = None;
+    }
+    state.place_variables();
+    state.place_pool()
+}
+
+/// The name that OPDEF defines; goes on behind the `[`.
+pub fn operation_name(state: &mut Assembly, what: Name) -> Name {
+    let name = state.needed_name(what);
+    if !state.eat(b'[') {
+        state.fail_statement(Fault::Needs(what));
+    }
+    name
+}
+
+/// OPDEF, whose `[` is read: a word is the operation. `place` is that of the statement.
+pub fn define_operation(
+    state: &mut Assembly,
+    value: Option<Value>,
+    name: Name,
+    what: Name,
+    place: Place,
+) {
+    if value.is_none() {
+        state.fail(place, Fault::Needs(what));
+    }
+    state.statement = place;
+    let word = as_word(state, value.unwrap_or(Value::zero()), place);
+    state.expect(b']');
+    state.note_definition(name, place.line);
+    let number = match word {
+        Some(word) => Some(word.number()),
+        None => None,
+    };
+    state.put_meaning(name, Meaning::Opdef(number))
+}
+
+/// SEARCH: of its names only UUOSYM says something.
+fn search(state: &mut Assembly) {
+    for _ in 0..u64::MAX {
+        let next = state.blanks();
+        if state.is_name_next() {
+            if state.name() == Name::of(b"UUOSYM") {
+                state.uuosym = true;
+            }
+        } else {
+            match next {
+                None | Some(b'\n' | b';') => break,
+                Some(other) => state.advance(other),
+            }
+        }
+    }
+}
+
+/// SYN: the second name is what the first is.
+fn syn(state: &mut Assembly, what: Name) {
+    let of = state.needed_name(what);
+    let place = state.statement;
+    if !state.eat(b',') {
+        state.fail(place, Fault::Needs(what));
+    }
+    let name = state.needed_name(what);
+    state.note_use(of, place.line);
+    state.note_definition(name, place.line);
+    if state.is_failed() {
+        return;
+    }
+    if let Some(meaning) = state.meanings.get(of) {
+        return state.put_meaning(name, meaning);
+    }
+    if built_in(of).is_some() {
+        return state.put_meaning(name, Meaning::Synonym(of));
+    }
+    same_symbol(state, of, name, place)
+}
+
+/// SYN of a symbol: the second name has its value.
+fn same_symbol(state: &mut Assembly, of: Name, name: Name, place: Place) {
+    match state.symbols.get(of) {
+        Some(definition) if definition.multiple => state.fail(place, Fault::UseOfDuplicate(of)),
+        Some(definition) if definition.value.is_some() || state.pass == 1 => state.assign(
+            name,
+            place,
+            definition.value,
+            definition.placed,
+        ),
+        Some(_) | None => {
+            if state.pass == 1 {
+                state.assign(name, place, None, false);
+            } else {
+                state.fail(place, Fault::NotDefined(of));
+            }
+        }
+    }
+}
+
+/// Forgets what a name means, else the symbol of that name.
+fn forget(state: &mut Assembly, name: Name) {
+    state.note_use(name, state.statement.line);
+    if state.is_failed() {
+        return;
+    }
+    if state.pass == 2 {
+        let done = state.listing.purged.push(name.sixbit()).is_ok();
+        state.kept(done);
+    }
+    if !state.meanings.remove(name) {
+        state.symbols.remove(name);
+    }
+}
+
+/// PURGE.
+fn purge(state: &mut Assembly, what: Name) {
+    for _ in 0..u64::MAX {
+        let name = state.needed_name(what);
+        forget(state, name);
+        if !state.eat(b',') {
+            break;
+        }
+    }
+}
+
+/// Types a character of PRINTX.
+fn type_character(state: &mut Assembly, character: u8) {
+    let done = state.typed.push(character).is_ok();
+    state.kept(done);
+}
+
+/// PRINTX: the rest of the line, without blanks around it.
+fn printx(state: &mut Assembly) {
+    state.blanks();
+    let mut kept = state.typed.len();
+    for _ in 0..u64::MAX {
+        match state.peek() {
+            None | Some(b'\n') => break,
+            Some(character) => {
+                type_character(state, character);
+                if !is_blank(character) {
+                    kept = state.typed.len();
+                }
+                state.advance(character);
+            }
+        }
+    }
+    if !state.is_failed() {
+        state.typed.truncate(kept);
+        type_character(state, b'\n');
+    }
+}

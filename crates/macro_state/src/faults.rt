@@ -1,0 +1,136 @@
+//! What is told of a source.
+
+ghost use Rattle.std.specs.Prelude.{◌≡◌, ◌↔◌, None, IsSome, IsTrue};
+
+use crate::state::Assembly;
+use macro_faults::{Failure, Fault, Told};
+use macro_stream::{Limit, Place, Stop};
+use std::alloc::AllocError;
+
+/// Whether a fault of this place is told already.
+fn is_told(faults: &[Told], place: Place) -> bool {
+    for told in faults {
+        if told.place.line == place.line && told.place.column == place.column {
+            return true;
+        }
+    }
+    false
+}
+
+impl Assembly {
+    /// Whether the statement is not carried out.
+    pub fn is_failed(&self) -> bool
+        ensures { IsTrue result ↔ IsSome self.now.failure }
+    {
+        self.failure.is_some()
+    }
+
+    /// Keeps why the statement is not carried out. The first reason counts, but for memory.
+    fn give_up(&mut self, failure: Failure)
+        ensures first { IsSome self.old.failure → self.new.failure ≡ self.old.failure }
+        ensures failed { self.new.failure ≡ None → ⊥ }
+        ensures numbers { self.new.numbers ≡ self.old.numbers }
+    {
+        if self.failure.is_none() {
+            self.failure = Some(failure);
+        }
+    }
+
+    /// There is no memory for the statement, which goes before all other reasons.
+    pub fn out_of_memory(&mut self)
+        ensures failed { self.new.failure ≡ None → ⊥ }
+        ensures numbers { self.new.numbers ≡ self.old.numbers }
+    {
+        self.failure = Some(Failure::Memory);
+    }
+
+    /// Takes note of whether there was memory.
+    pub fn kept(&mut self, done: bool) {
+        if !done {
+            self.out_of_memory()
+        }
+    }
+
+    /// A fault at a place.
+    pub fn fail(&mut self, place: Place, fault: Fault)
+        ensures failed { self.new.failure ≡ None → ⊥ }
+        ensures numbers { self.new.numbers ≡ self.old.numbers }
+    {
+        self.give_up(Failure::of(place, fault))
+    }
+
+    /// A fault at the statement.
+    pub fn fail_statement(&mut self, fault: Fault)
+        ensures failed { self.new.failure ≡ None → ⊥ }
+        ensures numbers { self.new.numbers ≡ self.old.numbers }
+    {
+        self.give_up(Failure::of(self.statement, fault))
+    }
+
+    /// A fault at what is next.
+    pub fn fail_here(&mut self, fault: Fault)
+        ensures failed { self.new.failure ≡ None → ⊥ }
+        ensures numbers { self.new.numbers ≡ self.old.numbers }
+    {
+        if self.failure.is_none() {
+            self.failure = Some(Failure::of(self.stream.place(), fault));
+        }
+    }
+
+    /// A stop of the stream.
+    pub fn stop(&mut self, stop: Stop) {
+        match Failure::of_stop(self.stream.place(), stop) {
+            Failure::Memory => self.out_of_memory(),
+            failure => self.give_up(failure),
+        }
+    }
+
+    /// What the stream gave; else its stop at what is next.
+    pub fn taken<T>(&mut self, outcome: Result<T, Stop>) -> Option<T> {
+        match outcome {
+            Ok(value) => Some(value),
+            Err(stop) => {
+                self.stop(stop);
+                None
+            }
+        }
+    }
+
+    /// A value that does not fit. In the first pass it is one that is not known, since names may still change.
+    pub fn misfit(&mut self, place: Place, fault: Fault)
+        ensures told { self.old.pass ≡ 2 → self.new.failure ≡ None → ⊥ }
+        ensures failed { self.new.failure ≡ None → self.old.failure ≡ None }
+        ensures numbers { self.new.numbers ≡ self.old.numbers }
+    {
+        if self.pass == 2 {
+            self.fail(place, fault)
+        } else if self.failure.is_none() {
+            self.deferred = Some(Told { place, fault });
+        }
+    }
+
+    /// Keeps what is told; one fault for a place.
+    pub fn tell(&mut self, told: Told) -> Result<(), AllocError> {
+        if told.fault.is_limit() {
+            self.stopped = true;
+        }
+        if is_told(self.faults.as_slice(), told.place) {
+            return Ok(());
+        }
+        let mut told = told;
+        if self.faults.len() >= Limit::Errors.most() as usize {
+            self.stopped = true;
+            told.fault = Fault::Limit(Limit::Errors);
+        }
+        self.faults.push(told)?;
+        Ok(())
+    }
+
+    /// Keeps that something has another place in the second pass.
+    pub fn tell_moved(&mut self, place: Place, fault: Fault) {
+        if !self.is_failed() && !is_told(self.moved.as_slice(), place) {
+            let done = self.moved.push(Told { place, fault }).is_ok();
+            self.kept(done);
+        }
+    }
+}
