@@ -3,9 +3,7 @@ use Rattle.std.proofs.Common.{◌≡◌, ◌∙◌, sym, ap, subst, ℕ, ◌+◌
 use Rattle.std.proofs.Common.{◌++◌, length, refl, arith, if◌then◌else◌, cond, append-nil, take, drop, get_or}
 use Rattle.std.proofs.lemmas.List.{drop_more, drop_all, take_all}
 use Rattle.std.proofs.lemmas.List.Elements.{filter_more}
-use Rattle.std.proofs.lemmas.Bool.{ne_eqb}
-use Rattle.std.proofs.lemmas.Bool.Decides.{nat_tests}
-use Rattle.std.proofs.lemmas.Grind.{common_steps}
+use Rattle.std.proofs.lemmas.Bool.{ne_eqb, eqb-true, lt-ltb, ltb-true}
 use Rattle.std.specs.Prelude.{filter, ◌≢◌, ◌↔◌}
 use Rattle.image_files.specs.Images.{IsImage, Rises, is_not_zero, word_at}
 
@@ -54,20 +52,14 @@ image_falls rising listed words start rises e falls = (
   λ is. let holds : rising ≡ true = rises.1 (subst (λ (l : List (ℕ × ℕ)). Rises 0 l) (sym e) is.rises) in absurd (cc),
 )
 
-below_from : (n m : ℕ) → nat_lt n m ≡ true → n < m
-below_from n m h = grind (arith, nat_tests)
-
-below_test : (n m : ℕ) → n < m → nat_lt n m ≡ true
-below_test n m h = grind (arith, common_steps)
-
 pub image_if : (rising low : Bool) (listed words : List (ℕ × ℕ)) (start : ℕ) → (rising ≡ true) ↔ Rises 0 listed → listed ≡ words → rising ≡ true
     → low ≡ nat_lt start (2 ^ 18) → (low ≡ true) ↔ IsImage words start
 image_if rising low listed words start rises e holds is_low = (
   λ h. record {
     rises = subst (λ (l : List (ℕ × ℕ)). Rises 0 l) e (rises.0 holds);
-    start_fits = below_from start (2 ^ 18) (sym is_low ∙ h);
+    start_fits = ltb-true start (2 ^ 18) (sym is_low ∙ h);
   },
-  λ is. is_low ∙ below_test start (2 ^ 18) is.start_fits,
+  λ is. is_low ∙ lt-ltb start (2 ^ 18) is.start_fits,
 )
 
 -- ---- without words of 0
@@ -123,9 +115,6 @@ nothing_below least a (x ∷ xs) r h =
     let low : least ≤ x.0 = r.0 in
     ap (λ b. if b then x.1 else word_at xs a) (ne_eqb x.0 a (λ e. omega arith)) ∙ nothing_below (x.0 + 1) a xs r.2 (omega arith)
 
-equal_from : (p q : ℕ) → (p == q) ≡ true → p ≡ q
-equal_from p q h = grind (arith, nat_tests)
-
 kept_at : (t : Bool) (x : ℕ × ℕ) (xs : List (ℕ × ℕ)) (a : ℕ) → (x.1 == 0) ≡ t → Rises (x.0 + 1) xs
     → word_at (filter is_not_zero xs) a ≡ word_at xs a
     → word_at (if not t then x ∷ filter is_not_zero xs else filter is_not_zero xs) a ≡ word_at (x ∷ xs) a
@@ -133,8 +122,8 @@ kept_at false x xs a e r h = ap (λ w. if x.0 == a then x.1 else w) h
 kept_at true x xs a e r h =
     elim (x.0 == a) as (λ b. (x.0 == a) ≡ b → word_at (filter is_not_zero xs) a ≡ (if b then x.1 else word_at xs a)) [
       | true ↦ λ same.
-          let at : x.0 ≡ a = equal_from x.0 a same in
-          h ∙ (nothing_below (x.0 + 1) a xs r (omega arith) ∙ sym (equal_from x.1 0 e))
+          let at : x.0 ≡ a = eqb-true x.0 a same in
+          h ∙ (nothing_below (x.0 + 1) a xs r (omega arith) ∙ sym (eqb-true x.1 0 e))
       | false ↦ λ other. h
     ] refl
 

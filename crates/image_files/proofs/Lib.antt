@@ -4,6 +4,7 @@ pub mod PackLemmas
 pub mod SaveImages
 pub mod UnpackLemmas
 pub mod OctalLines
+pub mod FormLemmas
 pub mod CoreImageLemmas
 pub mod FitLemmas
 pub mod ImageLemmas

@@ -1,7 +1,7 @@
 -- Words as lines in octal: they are read from their lines, and lines that are read are those of the words.
-use Rattle.std.proofs.Common.{◌≡◌, ◌∙◌, sym, ap, ℕ, suc, ◌+◌, ◌-◌, ◌*◌, ◌/◌, ◌%◌, ◌^◌, ◌<◌, ◌≤◌, ◌==◌, Bool, true, false, ◌&&◌, nat_le, nat_lt}
-use Rattle.std.proofs.Common.{List, [], ◌∷◌, ◌++◌, Ok, Err, refl, arith, length, take, drop}
-use Rattle.std.proofs.lemmas.Bool.{and_parts}
+use Rattle.std.proofs.Common.{◌≡◌, ◌∙◌, sym, ap, ℕ, suc, ◌+◌, ◌*◌, ◌/◌, ◌%◌, ◌^◌, ◌<◌, ◌≤◌, ◌==◌, Bool, true, ◌&&◌, nat_le, nat_lt}
+use Rattle.std.proofs.Common.{List, [], ◌∷◌, ◌++◌, Ok, refl, arith, length, drop}
+use Rattle.std.proofs.lemmas.Bool.{and_parts, eqb-true}
 use Rattle.std.proofs.lemmas.Bool.Decides.{nat_tests}
 use Rattle.std.proofs.lemmas.Grind.{common_steps}
 use Rattle.std.specs.Prelude.{flat_map, codes}
@@ -9,9 +9,9 @@ use Rattle.word36.specs.Octal.{octal, last_digit}
 use Rattle.word36.specs.Words.{joined, left_half, right_half}
 use Rattle.image_files.specs.declared.packings.PackErrorKind.TheVariants.{CutShort, NotOctal}
 use Rattle.image_files.specs.Packings.{Words, with_word, wrong_at, word_or, is_octal_digit, are_octal_digits, are_marks, half_value, octal_bytes, octal_words}
-use Rattle.image_files.specs.Unpacks.{with_words, begins_with_line, line_value}
+use Rattle.image_files.specs.WordForms.{begins_with_line, line_value}
 use Rattle.image_files.proofs.Bounds.{AreBelow}
-use Rattle.image_files.proofs.UnpackLemmas.{ReadsEach, stepped, ended, short, extra}
+use Rattle.image_files.proofs.UnpackLemmas.{ReadsEach}
 
 -- ---- from words to lines and back
 
@@ -117,9 +117,6 @@ joined_left x y h = omega arith
 joined_right : (x y : ℕ) → y < 2 ^ 18 → right_half (joined x y) ≡ y
 joined_right x y h = omega arith
 
-mark_is : (c n : ℕ) → (c == n) ≡ true → c ≡ n
-mark_is c n h = grind (arith, nat_tests)
-
 pub line_same : (a b c d e f p q g i j k l m z : ℕ)
     → (are_octal_digits a b c d e f && (are_octal_digits g i j k l m && are_marks p q z)) ≡ true
     → octal_bytes (joined (half_value a b c d e f) (half_value g i j k l m)) ≡ (a ∷ b ∷ c ∷ d ∷ e ∷ f ∷ p ∷ q ∷ g ∷ i ∷ j ∷ k ∷ l ∷ m ∷ z ∷ [])
@@ -132,9 +129,9 @@ line_same a b c d e f p q g i j k l m z h =
     let others = and_parts (are_octal_digits g i j k l m) (are_marks p q z) digits.1 in
     let marks = and_parts (p == 44) (q == 44 && z == 10) others.1 in
     let ends = and_parts (q == 44) (z == 10) marks.1 in
-    let first : 44 ≡ p = sym (mark_is p 44 marks.0) in
-    let second : 44 ≡ q = sym (mark_is q 44 ends.0) in
-    let third : 10 ≡ z = sym (mark_is z 10 ends.1) in
+    let first : 44 ≡ p = sym (eqb-true p 44 marks.0) in
+    let second : 44 ≡ q = sym (eqb-true q 44 ends.0) in
+    let third : 10 ≡ z = sym (eqb-true z 10 ends.1) in
     ap (λ n. (octal 6 n ++ (codes ",," ++ octal 6 (right_half (joined x y)))) ++ codes "\n") (joined_left x y small)
     ∙ (ap (λ n. (octal 6 x ++ (codes ",," ++ octal 6 n)) ++ codes "\n") (joined_right x y small)
     ∙ (ap (λ t. (t ++ (codes ",," ++ octal 6 y)) ++ codes "\n") (half_same a b c d e f digits.0)
@@ -191,21 +188,5 @@ octal_first n (a ∷ b ∷ c ∷ d ∷ e ∷ f ∷ p ∷ q ∷ g ∷ h ∷ i ∷
 octal_first n (a ∷ b ∷ c ∷ d ∷ e ∷ f ∷ p ∷ q ∷ g ∷ h ∷ i ∷ j ∷ k ∷ l ∷ []) few = absurd (omega arith)
 octal_first n (a ∷ b ∷ c ∷ d ∷ e ∷ f ∷ p ∷ q ∷ g ∷ h ∷ i ∷ j ∷ k ∷ l ∷ z ∷ more) few = refl
 
-octal_each : ReadsEach NotOctal octal_words 15 begins_with_line line_value
+pub octal_each : ReadsEach NotOctal octal_words 15 begins_with_line line_value
 octal_each = record { none = octal_none; cut = octal_cut; first = octal_first }
-
-pub octal_stepped : (ws vs rest : List ℕ) (n m k v : ℕ) (all : Words) → vs ≡ ws ++ v ∷ [] → v ≡ line_value rest → begins_with_line rest ≡ true
-    → n ≡ length ws + 1 → m ≡ length vs + 1 → 15 ≤ length rest → k ≡ length rest - 15
-    → with_words ws (octal_words n rest) ≡ all → with_words vs (octal_words m (take k (drop 15 rest))) ≡ all
-octal_stepped = stepped NotOctal octal_words 15 begins_with_line line_value octal_each
-
-pub octal_ended : (ws rest : List ℕ) (n : ℕ) (all : Words) → length rest ≡ 0 → with_words ws (octal_words n rest) ≡ all → all ≡ Ok ws
-octal_ended = ended NotOctal octal_words 15 begins_with_line line_value octal_each
-
-pub octal_short : (ws rest : List ℕ) (n : ℕ) (all : Words) → with_words ws (octal_words n rest) ≡ all → 0 < length rest → length rest < 15
-    → all ≡ Err (record { number = n; kind = CutShort })
-octal_short = short NotOctal octal_words 15 begins_with_line line_value octal_each
-
-pub octal_wrong : (ws rest : List ℕ) (n : ℕ) (all : Words) → with_words ws (octal_words n rest) ≡ all → 15 ≤ length rest → begins_with_line rest ≡ false
-    → all ≡ Err (record { number = n; kind = NotOctal })
-octal_wrong = extra NotOctal octal_words 15 begins_with_line line_value octal_each

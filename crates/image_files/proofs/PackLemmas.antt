@@ -1,11 +1,9 @@
 -- Words are read from their bytes, and bytes that are read are those of the words.
-use Rattle.std.proofs.Common.{◌≡◌, ◌∙◌, sym, ap, ℕ, ◌+◌, ◌-◌, ◌*◌, ◌/◌, ◌%◌, ◌^◌, ◌<◌, ◌≤◌, ◌==◌, Bool, true, false, ◌&&◌, nat_lt, List, [], ◌∷◌, ◌++◌}
+use Rattle.std.proofs.Common.{◌≡◌, ◌∙◌, sym, ap, ℕ, ◌+◌, ◌-◌, ◌*◌, ◌/◌, ◌%◌, ◌^◌, ◌<◌, ◌==◌, Bool, true, false, ◌&&◌, nat_lt, List, [], ◌∷◌, ◌++◌}
 use Rattle.std.proofs.Common.{Ok, Err, refl, arith, length, take, drop, get_or, append_assoc, append-nil}
 use Rattle.std.proofs.lemmas.List.{take_all}
 use Rattle.std.specs.Prelude.{flat_map, All}
-use Rattle.std.proofs.lemmas.Bool.{and_parts}
-use Rattle.std.proofs.lemmas.Bool.Decides.{nat_tests}
-use Rattle.std.proofs.lemmas.Grind.{common_steps}
+use Rattle.std.proofs.lemmas.Bool.{and_parts, eqb-true, lt-ltb, ltb-true}
 use Rattle.image_files.specs.declared.packings.Packing.{Packing}
 use Rattle.image_files.specs.declared.packings.Packing.TheVariants.{CoreDump, HighDensity, AnsiAscii, Simh, Octal}
 use Rattle.image_files.proofs.Bounds.{AreBelow, are_below}
@@ -18,25 +16,13 @@ use Rattle.image_files.specs.Packings.{octal_bytes, are_octal_digits, are_marks,
 use Rattle.word36.specs.Words.{joined}
 use Rattle.image_files.proofs.OctalLines.{line_same, octal_read}
 
-below_test : (n m : ℕ) → n < m → nat_lt n m ≡ true
-below_test n m h = grind (arith, common_steps)
-
-not_below : (n m : ℕ) → m ≤ n → nat_lt n m ≡ false
-not_below n m h = grind (arith, common_steps)
-
-below_from : (n m : ℕ) → nat_lt n m ≡ true → n < m
-below_from n m h = grind (arith, nat_tests)
-
-zero_from : (n : ℕ) → (n == 0) ≡ true → n ≡ 0
-zero_from n h = grind (arith, nat_tests)
-
 -- ---- from words to bytes and back
 
 core_back : (w : ℕ) → five_bytes (w / 2 ^ 28) (w / 2 ^ 20 % 256) (w / 2 ^ 12 % 256) (w / 2 ^ 4 % 256) (w % 16) ≡ w
 core_back w = omega arith
 
 core_fits : (w : ℕ) → nat_lt (w % 16) 16 ≡ true
-core_fits w = below_test (w % 16) 16 (omega arith)
+core_fits w = lt-ltb (w % 16) 16 (omega arith)
 
 core_read : (ws : List ℕ) (number : ℕ) → core_words number (flat_map core_bytes ws) ≡ Ok ws
 unfolding core_words
@@ -56,10 +42,10 @@ ascii_back w =
 ascii_fits : (w : ℕ) → w < 2 ^ 36 → are_characters (w / 2 ^ 29) (w / 2 ^ 22 % 128) (w / 2 ^ 15 % 128) (w / 2 ^ 8 % 128) ≡ true
 ascii_fits w h =
     rw (
-      below_test (w / 2 ^ 29) 128 (omega arith),
-      below_test (w / 2 ^ 22 % 128) 128 (omega arith),
-      below_test (w / 2 ^ 15 % 128) 128 (omega arith),
-      below_test (w / 2 ^ 8 % 128) 128 (omega arith),
+      lt-ltb (w / 2 ^ 29) 128 (omega arith),
+      lt-ltb (w / 2 ^ 22 % 128) 128 (omega arith),
+      lt-ltb (w / 2 ^ 15 % 128) 128 (omega arith),
+      lt-ltb (w / 2 ^ 8 % 128) 128 (omega arith),
     ) refl
 
 ascii_read : (ws : List ℕ) (number : ℕ) → AreBelow (2 ^ 36) ws → ascii_words number (flat_map ascii_bytes ws) ≡ Ok ws
@@ -75,7 +61,7 @@ simh_back : (w : ℕ) → simh_value (w % 256) (w / 2 ^ 8 % 256) (w / 2 ^ 16 % 2
 simh_back w = omega arith
 
 simh_fits : (w : ℕ) → w < 2 ^ 36 → is_simh (w / 2 ^ 32) 0 0 0 ≡ true
-simh_fits w h = rw (below_test (w / 2 ^ 32) 16 (omega arith)) refl
+simh_fits w h = rw (lt-ltb (w / 2 ^ 32) 16 (omega arith)) refl
 
 simh_read : (ws : List ℕ) (number : ℕ) → AreBelow (2 ^ 36) ws → simh_words number (flat_map simh_bytes ws) ≡ Ok ws
 unfolding simh_words
@@ -171,7 +157,7 @@ unfolding core_words
 core_bytes_back [] number h = refl
 core_bytes_back (a ∷ b ∷ c ∷ d ∷ e ∷ bs) number h =
     then_back core_bytes ExtraBits number (five_bytes a b c d e) (a ∷ b ∷ c ∷ d ∷ e ∷ []) bs (nat_lt e 16) (core_words (number + 1) bs)
-    (λ t. core_same a b c d e h.0 h.1.0 h.1.1.0 h.1.1.1.0 (below_from e 16 t))
+    (λ t. core_same a b c d e h.0 h.1.0 h.1.1.0 h.1.1.1.0 (ltb-true e 16 t))
     (core_bytes_back bs (number + 1) h.1.1.1.1.1)
 core_bytes_back (a ∷ []) number h = tt
 core_bytes_back (a ∷ b ∷ []) number h = tt
@@ -191,7 +177,7 @@ characters a b c d h =
     let p = and_parts (nat_lt a 128) (nat_lt b 128 && (nat_lt c 128 && nat_lt d 128)) h in
     let q = and_parts (nat_lt b 128) (nat_lt c 128 && nat_lt d 128) p.1 in
     let r = and_parts (nat_lt c 128) (nat_lt d 128) q.1 in
-    (below_from a 128 p.0, below_from b 128 q.0, below_from c 128 r.0, below_from d 128 r.1)
+    (ltb-true a 128 p.0, ltb-true b 128 q.0, ltb-true c 128 r.0, ltb-true d 128 r.1)
 
 ascii_bytes_back : (bs : List ℕ) (number : ℕ) → AreBelow 256 bs → IsBack (each ascii_bytes) bs (ascii_words number bs)
 unfolding ascii_words
@@ -221,7 +207,7 @@ is_simh_parts e f g h t =
     let p = and_parts (nat_lt e 16) (f == 0 && (g == 0 && h == 0)) t in
     let q = and_parts (f == 0) (g == 0 && h == 0) p.1 in
     let r = and_parts (g == 0) (h == 0) q.1 in
-    (below_from e 16 p.0, zero_from f q.0, zero_from g r.0, zero_from h r.1)
+    (ltb-true e 16 p.0, eqb-true f 0 q.0, eqb-true g 0 r.0, eqb-true h 0 r.1)
 
 simh_bytes_back : (bs : List ℕ) (number : ℕ) → AreBelow 256 bs → IsBack (each simh_bytes) bs (simh_words number bs)
 unfolding simh_words
@@ -303,7 +289,7 @@ unfolding dense_words dense_bytes
 dense_bytes_back [] number h = refl
 dense_bytes_back (a ∷ b ∷ c ∷ d ∷ e ∷ []) number h =
     last_back_if number a b c d e (e % 16 == 0)
-    (λ t. last_same a b c d e h.0 h.1.0 h.1.1.0 h.1.1.1.0 h.1.1.1.1.0 (zero_from (e % 16) t))
+    (λ t. last_same a b c d e h.0 h.1.0 h.1.1.0 h.1.1.1.0 h.1.1.1.1.0 (eqb-true (e % 16) 0 t))
 dense_bytes_back (a ∷ b ∷ c ∷ d ∷ e ∷ f ∷ g ∷ k ∷ i ∷ bs) number h =
     pair_back (five_bytes a b c d (e / 16)) (second_word e f g k i) (a ∷ b ∷ c ∷ d ∷ e ∷ f ∷ g ∷ k ∷ i ∷ bs) bs (dense_words (number + 2) bs)
     (λ rest same.

@@ -3,12 +3,10 @@ use Rattle.std.proofs.Common.{◌≡◌, ◌∙◌, sym, ap, subst, ℕ, zero, s
 use Rattle.std.proofs.Common.{length, Result, Ok, Err, refl, arith, if◌then◌else◌, append_assoc, take, drop, get_or, length-drop}
 use Rattle.std.proofs.lemmas.List.{take_all}
 use Rattle.std.proofs.Math.Seq.{drop-cons}
-use Rattle.std.proofs.lemmas.Bool.{ne_eqb}
+use Rattle.std.proofs.lemmas.Bool.{ne_eqb, eqb-true, le-leb, le-ltb, ltb-true}
 use Rattle.std.specs.Prelude.{◌≢◌}
 use Rattle.std.specs.Prelude.{flat_map}
 use Rattle.std.proofs.lemmas.Bool.{and_parts}
-use Rattle.std.proofs.lemmas.Bool.Decides.{nat_tests}
-use Rattle.std.proofs.lemmas.Grind.{common_steps}
 use Rattle.word36.specs.Words.{left_half, right_half}
 use Rattle.image_files.specs.Saves.{Loaded, SaveFault, is_iowd, iowd_count, iowd_address, iowd, is_jrst, jrst, with_word, ended_by, image_from, image_of_save}
 use Rattle.image_files.specs.declared.saves.SaveErrorKind.{SaveErrorKind}
@@ -21,12 +19,6 @@ use Rattle.image_files.specs.Saves.{Block, block_before, blocks_of, block_words,
 
 -- ---- IOWD and JRST
 
-le_test : (n m : ℕ) → n ≤ m → nat_le n m ≡ true
-le_test n m h = grind (arith, common_steps)
-
-not_below : (n m : ℕ) → m ≤ n → nat_lt n m ≡ false
-not_below n m h = grind (arith, common_steps)
-
 iowd_left : (n p : ℕ) → 0 < n → n ≤ 2 ^ 17 → left_half (iowd n p) ≡ 2 ^ 18 - n
 iowd_left n p h k = omega arith
 
@@ -34,7 +26,7 @@ iowd_right : (n p : ℕ) → right_half (iowd n p) ≡ (p + (2 ^ 18 - 1)) % 2 ^ 
 iowd_right n p = omega arith
 
 iowd_is : (n p : ℕ) → 0 < n → n ≤ 2 ^ 17 → is_iowd (iowd n p) ≡ true
-iowd_is n p h k = le_test (2 ^ 17) (left_half (iowd n p)) (omega (arith, iowd_left n p h k))
+iowd_is n p h k = le-leb (2 ^ 17) (left_half (iowd n p)) (omega (arith, iowd_left n p h k))
 
 iowd_counts : (n p : ℕ) → 0 < n → n ≤ 2 ^ 17 → iowd_count (iowd n p) ≡ n
 iowd_counts n p h k = omega (arith, iowd_left n p h k)
@@ -114,7 +106,7 @@ iowd_head address n p a b c d =
     let small : p < 2 ^ 18 = omega arith in
     let counts = iowd_counts n p b c in
     let addresses = iowd_addresses n p small in
-    rw (iowd_is n p b c, addresses, counts, not_below p address a, not_below (2 ^ 18) (p + n) d) refl
+    rw (iowd_is n p b c, addresses, counts, le-ltb p address a, le-ltb (2 ^ 18) (p + n) d) refl
 
 jrst_head : (address start : ℕ) → start < 2 ^ 18 → head_at address (jrst start) ≡ Ok (start_at start)
 jrst_head address start h = rw (jrst_no_iowd start h, jrst_is start h, jrst_right start h) refl
@@ -161,12 +153,6 @@ blocks_read (b ∷ bs) number address start are h =
 -- ---- the blocks of words
 
 -- a word before blocks, whichever way it goes
-same_address : (p q : ℕ) → (p == q) ≡ true → p ≡ q
-same_address p q h = grind (arith, nat_tests)
-
-room : (n m : ℕ) → nat_lt n m ≡ true → n < m
-room n m h = grind (arith, nat_tests)
-
 choice_flat : (t : Bool) (x : ℕ × ℕ) (b : Block) (bs : List Block) → (t ≡ true → b.address ≡ x.0 + 1)
     → flat (if t then record { address = x.0; words = x.1 ∷ b.words } ∷ bs else record { address = x.0; words = x.1 ∷ [] } ∷ b ∷ bs) ≡ x ∷ flat (b ∷ bs)
 choice_flat true x b bs h = ap (λ p. x ∷ (placed p b.words ++ flat bs)) (sym (h refl))
@@ -176,7 +162,7 @@ before_flat : (x : ℕ × ℕ) (bs : List Block) → flat (block_before x bs) �
 before_flat x [] = refl
 before_flat x (b ∷ bs) =
     let test = b.address == x.0 + 1 && nat_lt (length b.words) (2 ^ 17) in
-    choice_flat test x b bs (λ h. same_address b.address (x.0 + 1) (and_parts (b.address == x.0 + 1) (nat_lt (length b.words) (2 ^ 17)) h).0)
+    choice_flat test x b bs (λ h. eqb-true b.address (x.0 + 1) (and_parts (b.address == x.0 + 1) (nat_lt (length b.words) (2 ^ 17)) h).0)
 
 flat_blocks : (xs : List (ℕ × ℕ)) → flat (blocks_of xs) ≡ xs
 unfolding blocks_of
@@ -203,7 +189,7 @@ before_are least x (b ∷ bs) low high are =
     let test = b.address == x.0 + 1 && nat_lt (length b.words) (2 ^ 17) in
     choice_are test least x b bs (λ h.
     let p = and_parts (b.address == x.0 + 1) (nat_lt (length b.words) (2 ^ 17)) h in
-    (same_address b.address (x.0 + 1) p.0, room (length b.words) (2 ^ 17) p.1)) low high are
+    (eqb-true b.address (x.0 + 1) p.0, ltb-true (length b.words) (2 ^ 17) p.1)) low high are
 
 blocks_are : (least : ℕ) (xs : List (ℕ × ℕ)) → Rises least xs → AreBlocks least (blocks_of xs)
 unfolding blocks_of

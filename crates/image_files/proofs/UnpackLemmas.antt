@@ -1,15 +1,16 @@
 -- The loops that read words from bytes: the words so far before those of the rest are the words of all.
-use Rattle.std.proofs.Common.{◌≡◌, ◌∙◌, sym, ap, ℕ, ◌+◌, ◌-◌, ◌/◌, ◌%◌, ◌<◌, ◌≤◌, ◌==◌, Bool, true, false, nat_lt, List, [], ◌∷◌, ◌++◌}
-use Rattle.std.proofs.Common.{Ok, Err, refl, arith, append-nil, length, length-append, length-drop, take, drop, get_or}
+use Rattle.std.proofs.Common.{◌≡◌, ◌∙◌, sym, ap, ℕ, ◌+◌, ◌-◌, ◌/◌, ◌%◌, ◌<◌, ◌≤◌, ◌==◌, Bool, true, false, List, [], ◌∷◌, ◌++◌}
+use Rattle.std.proofs.Common.{Ok, refl, arith, append-nil, length, length-append, length-drop, take, drop, get_or}
 use Rattle.std.proofs.lemmas.List.{take_all}
-use Rattle.std.proofs.lemmas.Grind.{common_steps}
 use Rattle.std.proofs.lemmas.Bool.{ne_eqb}
 use Rattle.std.specs.Prelude.{◌≢◌}
 use Rattle.image_files.specs.declared.packings.PackErrorKind.{PackErrorKind}
 use Rattle.image_files.specs.declared.packings.PackErrorKind.TheVariants.{CutShort, ExtraBits}
 use Rattle.image_files.specs.Unpacks.{with_words}
-use Rattle.image_files.specs.Packings.{Words, with_word, word_or, word_then, wrong_at, five_bytes, core_words, ascii_value, are_characters, ascii_words}
-use Rattle.image_files.specs.Packings.{simh_value, is_simh, simh_words, second_word, dense_words}
+use Rattle.image_files.specs.Packings.{Words, with_word, word_or, word_then, wrong_at, five_bytes, second_word}
+use Rattle.image_files.specs.Packings.{core_words, ascii_words, simh_words, dense_words}
+use Rattle.image_files.specs.declared.word_forms.WordForm.TheVariants.{CoreDump, AnsiAscii, Simh}
+use Rattle.image_files.specs.WordForms.{fits_in, value_in}
 
 -- ---- words before others
 
@@ -32,12 +33,6 @@ true_then kind false number w r h = absurd (cc)
 false_then : (kind : PackErrorKind) (t : Bool) (number w : ℕ) (r : Words) → t ≡ false → word_or kind number t w r ≡ wrong_at number kind
 false_then kind false number w r h = refl
 false_then kind true number w r h = absurd (cc)
-
-below_test : (n m : ℕ) → n < m → nat_lt n m ≡ true
-below_test n m h = grind (arith, common_steps)
-
-not_below : (n m : ℕ) → m ≤ n → nat_lt n m ≡ false
-not_below n m h = grind (arith, common_steps)
 
 -- ---- a packing whose words have so many bytes each
 
@@ -84,12 +79,6 @@ extra kind read size fits value each ws rest n all h l wrong =
 
 -- ---- core dump
 
-abbrev pub core_fits : List ℕ → Bool
-core_fits bs = nat_lt (get_or bs 4 0) 16
-
-abbrev pub core_value : List ℕ → ℕ
-core_value bs = five_bytes (get_or bs 0 0) (get_or bs 1 0) (get_or bs 2 0) (get_or bs 3 0) (get_or bs 4 0)
-
 core_cut : (n : ℕ) (bs : List ℕ) → 0 < length bs → length bs < 5 → core_words n bs ≡ wrong_at n CutShort
 unfolding core_words
 core_cut n [] h k = absurd (omega arith)
@@ -99,7 +88,7 @@ core_cut n (a ∷ b ∷ c ∷ []) h k = refl
 core_cut n (a ∷ b ∷ c ∷ d ∷ []) h k = refl
 core_cut n (a ∷ b ∷ c ∷ d ∷ e ∷ more) h k = absurd (omega arith)
 
-core_first : (n : ℕ) (bs : List ℕ) → 5 ≤ length bs → core_words n bs ≡ word_then n (core_fits bs) (core_value bs) (core_words (n + 1) (drop 5 bs))
+core_first : (n : ℕ) (bs : List ℕ) → 5 ≤ length bs → core_words n bs ≡ word_then n (fits_in CoreDump bs) (value_in CoreDump bs) (core_words (n + 1) (drop 5 bs))
 unfolding core_words
 core_first n [] h = absurd (omega arith)
 core_first n (a ∷ []) h = absurd (omega arith)
@@ -112,34 +101,10 @@ core_none : (n : ℕ) → core_words n [] ≡ Ok []
 unfolding core_words
 core_none n = refl
 
-core_each : ReadsEach ExtraBits core_words 5 core_fits core_value
+pub core_each : ReadsEach ExtraBits core_words 5 (fits_in CoreDump) (value_in CoreDump)
 core_each = record { none = core_none; cut = core_cut; first = core_first }
 
-pub core_stepped : (ws vs rest : List ℕ) (n m k v : ℕ) (all : Words) → vs ≡ ws ++ v ∷ [] → v ≡ core_value rest → get_or rest 4 0 < 16
-    → n ≡ length ws + 1 → m ≡ length vs + 1 → 5 ≤ length rest → k ≡ length rest - 5
-    → with_words ws (core_words n rest) ≡ all → with_words vs (core_words m (take k (drop 5 rest))) ≡ all
-core_stepped ws vs rest n m k v all is same fit =
-    stepped ExtraBits core_words 5 core_fits core_value core_each ws vs rest n m k v all is same (below_test (get_or rest 4 0) 16 fit)
-
-pub core_ended : (ws rest : List ℕ) (n : ℕ) (all : Words) → length rest ≡ 0 → with_words ws (core_words n rest) ≡ all → all ≡ Ok ws
-core_ended = ended ExtraBits core_words 5 core_fits core_value core_each
-
-pub core_short : (ws rest : List ℕ) (n : ℕ) (all : Words) → with_words ws (core_words n rest) ≡ all → 0 < length rest → length rest < 5
-    → all ≡ Err (record { number = n; kind = CutShort })
-core_short = short ExtraBits core_words 5 core_fits core_value core_each
-
-pub core_extra : (ws rest : List ℕ) (n : ℕ) (all : Words) → with_words ws (core_words n rest) ≡ all → 5 ≤ length rest → 16 ≤ get_or rest 4 0
-    → all ≡ Err (record { number = n; kind = ExtraBits })
-core_extra ws rest n all h l wrong =
-    extra ExtraBits core_words 5 core_fits core_value core_each ws rest n all h l (not_below (get_or rest 4 0) 16 wrong)
-
 -- ---- ANSI-ASCII
-
-abbrev pub ascii_fits : List ℕ → Bool
-ascii_fits bs = are_characters (get_or bs 0 0) (get_or bs 1 0) (get_or bs 2 0) (get_or bs 3 0)
-
-abbrev pub ascii_at : List ℕ → ℕ
-ascii_at bs = ascii_value (get_or bs 0 0) (get_or bs 1 0) (get_or bs 2 0) (get_or bs 3 0) (get_or bs 4 0)
 
 ascii_cut : (n : ℕ) (bs : List ℕ) → 0 < length bs → length bs < 5 → ascii_words n bs ≡ wrong_at n CutShort
 unfolding ascii_words
@@ -150,7 +115,7 @@ ascii_cut n (a ∷ b ∷ c ∷ []) h k = refl
 ascii_cut n (a ∷ b ∷ c ∷ d ∷ []) h k = refl
 ascii_cut n (a ∷ b ∷ c ∷ d ∷ e ∷ more) h k = absurd (omega arith)
 
-ascii_first : (n : ℕ) (bs : List ℕ) → 5 ≤ length bs → ascii_words n bs ≡ word_then n (ascii_fits bs) (ascii_at bs) (ascii_words (n + 1) (drop 5 bs))
+ascii_first : (n : ℕ) (bs : List ℕ) → 5 ≤ length bs → ascii_words n bs ≡ word_then n (fits_in AnsiAscii bs) (value_in AnsiAscii bs) (ascii_words (n + 1) (drop 5 bs))
 unfolding ascii_words
 ascii_first n [] h = absurd (omega arith)
 ascii_first n (a ∷ []) h = absurd (omega arith)
@@ -163,32 +128,10 @@ ascii_none : (n : ℕ) → ascii_words n [] ≡ Ok []
 unfolding ascii_words
 ascii_none n = refl
 
-ascii_each : ReadsEach ExtraBits ascii_words 5 ascii_fits ascii_at
+pub ascii_each : ReadsEach ExtraBits ascii_words 5 (fits_in AnsiAscii) (value_in AnsiAscii)
 ascii_each = record { none = ascii_none; cut = ascii_cut; first = ascii_first }
 
-pub ascii_stepped : (ws vs rest : List ℕ) (n m k v : ℕ) (all : Words) → vs ≡ ws ++ v ∷ [] → v ≡ ascii_at rest → ascii_fits rest ≡ true
-    → n ≡ length ws + 1 → m ≡ length vs + 1 → 5 ≤ length rest → k ≡ length rest - 5
-    → with_words ws (ascii_words n rest) ≡ all → with_words vs (ascii_words m (take k (drop 5 rest))) ≡ all
-ascii_stepped = stepped ExtraBits ascii_words 5 ascii_fits ascii_at ascii_each
-
-pub ascii_ended : (ws rest : List ℕ) (n : ℕ) (all : Words) → length rest ≡ 0 → with_words ws (ascii_words n rest) ≡ all → all ≡ Ok ws
-ascii_ended = ended ExtraBits ascii_words 5 ascii_fits ascii_at ascii_each
-
-pub ascii_short : (ws rest : List ℕ) (n : ℕ) (all : Words) → with_words ws (ascii_words n rest) ≡ all → 0 < length rest → length rest < 5
-    → all ≡ Err (record { number = n; kind = CutShort })
-ascii_short = short ExtraBits ascii_words 5 ascii_fits ascii_at ascii_each
-
-pub ascii_extra : (ws rest : List ℕ) (n : ℕ) (all : Words) → with_words ws (ascii_words n rest) ≡ all → 5 ≤ length rest → ascii_fits rest ≡ false
-    → all ≡ Err (record { number = n; kind = ExtraBits })
-ascii_extra = extra ExtraBits ascii_words 5 ascii_fits ascii_at ascii_each
-
 -- ---- SIMH
-
-abbrev pub simh_fits : List ℕ → Bool
-simh_fits bs = is_simh (get_or bs 4 0) (get_or bs 5 0) (get_or bs 6 0) (get_or bs 7 0)
-
-abbrev pub simh_at : List ℕ → ℕ
-simh_at bs = simh_value (get_or bs 0 0) (get_or bs 1 0) (get_or bs 2 0) (get_or bs 3 0) (get_or bs 4 0)
 
 simh_cut : (n : ℕ) (bs : List ℕ) → 0 < length bs → length bs < 8 → simh_words n bs ≡ wrong_at n CutShort
 unfolding simh_words
@@ -202,7 +145,7 @@ simh_cut n (a ∷ b ∷ c ∷ d ∷ e ∷ f ∷ []) h k = refl
 simh_cut n (a ∷ b ∷ c ∷ d ∷ e ∷ f ∷ g ∷ []) h k = refl
 simh_cut n (a ∷ b ∷ c ∷ d ∷ e ∷ f ∷ g ∷ i ∷ more) h k = absurd (omega arith)
 
-simh_first : (n : ℕ) (bs : List ℕ) → 8 ≤ length bs → simh_words n bs ≡ word_then n (simh_fits bs) (simh_at bs) (simh_words (n + 1) (drop 8 bs))
+simh_first : (n : ℕ) (bs : List ℕ) → 8 ≤ length bs → simh_words n bs ≡ word_then n (fits_in Simh bs) (value_in Simh bs) (simh_words (n + 1) (drop 8 bs))
 unfolding simh_words
 simh_first n [] h = absurd (omega arith)
 simh_first n (a ∷ []) h = absurd (omega arith)
@@ -218,24 +161,8 @@ simh_none : (n : ℕ) → simh_words n [] ≡ Ok []
 unfolding simh_words
 simh_none n = refl
 
-simh_each : ReadsEach ExtraBits simh_words 8 simh_fits simh_at
+pub simh_each : ReadsEach ExtraBits simh_words 8 (fits_in Simh) (value_in Simh)
 simh_each = record { none = simh_none; cut = simh_cut; first = simh_first }
-
-pub simh_stepped : (ws vs rest : List ℕ) (n m k v : ℕ) (all : Words) → vs ≡ ws ++ v ∷ [] → v ≡ simh_at rest → simh_fits rest ≡ true
-    → n ≡ length ws + 1 → m ≡ length vs + 1 → 8 ≤ length rest → k ≡ length rest - 8
-    → with_words ws (simh_words n rest) ≡ all → with_words vs (simh_words m (take k (drop 8 rest))) ≡ all
-simh_stepped = stepped ExtraBits simh_words 8 simh_fits simh_at simh_each
-
-pub simh_ended : (ws rest : List ℕ) (n : ℕ) (all : Words) → length rest ≡ 0 → with_words ws (simh_words n rest) ≡ all → all ≡ Ok ws
-simh_ended = ended ExtraBits simh_words 8 simh_fits simh_at simh_each
-
-pub simh_short : (ws rest : List ℕ) (n : ℕ) (all : Words) → with_words ws (simh_words n rest) ≡ all → 0 < length rest → length rest < 8
-    → all ≡ Err (record { number = n; kind = CutShort })
-simh_short = short ExtraBits simh_words 8 simh_fits simh_at simh_each
-
-pub simh_extra : (ws rest : List ℕ) (n : ℕ) (all : Words) → with_words ws (simh_words n rest) ≡ all → 8 ≤ length rest → simh_fits rest ≡ false
-    → all ≡ Err (record { number = n; kind = ExtraBits })
-simh_extra = extra ExtraBits simh_words 8 simh_fits simh_at simh_each
 
 -- ---- high density
 

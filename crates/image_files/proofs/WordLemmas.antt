@@ -2,8 +2,7 @@
 use Rattle.std.proofs.Common.{◌≡◌, sym, subst, ℕ, zero, suc, ◌+◌, ◌/◌, ◌%◌, ◌^◌, ◌<◌, ◌≤◌, ◌==◌, Bool, true, false, ◌&&◌, nat_lt, List, [], ◌∷◌, ◌++◌}
 use Rattle.std.proofs.Common.{length, Result, Ok, Err, refl, arith, if◌then◌else◌, append_assoc}
 use Rattle.std.specs.Prelude.{All, flat_map}
-use Rattle.std.proofs.lemmas.Bool.{and_parts}
-use Rattle.std.proofs.lemmas.Bool.Decides.{nat_tests}
+use Rattle.std.proofs.lemmas.Bool.{and_parts, ltb-true}
 use Rattle.image_files.proofs.Bounds.{AreBelow, are_below}
 use Rattle.image_files.specs.Images.{IsImage, WordsFit}
 use Rattle.image_files.specs.declared.packings.Packing.{Packing}
@@ -34,9 +33,6 @@ below_append : (limit : ℕ) (ms ns : List ℕ) → AreBelow limit ms → AreBel
 below_append limit [] ns h k = k
 below_append limit (m ∷ ms) ns h k = (h.0, below_append limit ms ns h.1 k)
 
-below_from : (n m : ℕ) → nat_lt n m ≡ true → n < m
-below_from n m h = grind (arith, nat_tests)
-
 -- ---- words that are read
 
 abbrev Fit : Words → Type 0
@@ -59,7 +55,7 @@ unfolding core_words
 core_fit [] number h = tt
 core_fit (a ∷ b ∷ c ∷ d ∷ e ∷ bs) number h =
     then_fit ExtraBits number (five_bytes a b c d e) (nat_lt e 16) (core_words (number + 1) bs)
-    (λ t. five_below a b c d e h.0 h.1.0 h.1.1.0 h.1.1.1.0 (below_from e 16 t)) (core_fit bs (number + 1) h.1.1.1.1.1)
+    (λ t. five_below a b c d e h.0 h.1.0 h.1.1.0 h.1.1.1.0 (ltb-true e 16 t)) (core_fit bs (number + 1) h.1.1.1.1.1)
 core_fit (a ∷ []) number h = tt
 core_fit (a ∷ b ∷ []) number h = tt
 core_fit (a ∷ b ∷ c ∷ []) number h = tt
@@ -70,7 +66,7 @@ characters_below a b c d e h k =
     let p = and_parts (nat_lt a 128) (nat_lt b 128 && (nat_lt c 128 && nat_lt d 128)) h in
     let q = and_parts (nat_lt b 128) (nat_lt c 128 && nat_lt d 128) p.1 in
     let r = and_parts (nat_lt c 128) (nat_lt d 128) q.1 in
-    omega (arith, below_from a 128 p.0, below_from b 128 q.0, below_from c 128 r.0, below_from d 128 r.1)
+    omega (arith, ltb-true a 128 p.0, ltb-true b 128 q.0, ltb-true c 128 r.0, ltb-true d 128 r.1)
 
 ascii_fit : (bs : List ℕ) (number : ℕ) → AreBelow 256 bs → Fit (ascii_words number bs)
 unfolding ascii_words
@@ -86,7 +82,7 @@ ascii_fit (a ∷ b ∷ c ∷ d ∷ []) number h = tt
 simh_below : (a b c d e f g h : ℕ) → is_simh e f g h ≡ true → a < 256 → b < 256 → c < 256 → d < 256 → simh_value a b c d e < 2 ^ 36
 simh_below a b c d e f g h t i j k l =
     let p = and_parts (nat_lt e 16) (f == 0 && (g == 0 && h == 0)) t in
-    omega (arith, below_from e 16 p.0)
+    omega (arith, ltb-true e 16 p.0)
 
 simh_fit : (bs : List ℕ) (number : ℕ) → AreBelow 256 bs → Fit (simh_words number bs)
 unfolding simh_words
@@ -186,7 +182,7 @@ before_fit x [] k fit = (omega arith, omega arith, (k, tt), tt)
 before_fit x (b ∷ bs) k fit =
     let test = b.address == x.0 + 1 && nat_lt (length b.words) (2 ^ 17) in
     choice_fit test x b bs
-    (λ h. below_from (length b.words) (2 ^ 17) (and_parts (b.address == x.0 + 1) (nat_lt (length b.words) (2 ^ 17)) h).1) k fit
+    (λ h. ltb-true (length b.words) (2 ^ 17) (and_parts (b.address == x.0 + 1) (nat_lt (length b.words) (2 ^ 17)) h).1) k fit
 
 abbrev AllFit : List (ℕ × ℕ) → Type 0
 AllFit [] = Unit {0}

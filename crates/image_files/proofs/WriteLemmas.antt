@@ -2,7 +2,7 @@
 use Rattle.std.proofs.Common.{◌≡◌, ◌∙◌, sym, ap, subst, ℕ, zero, suc, ◌+◌, ◌^◌, ◌<◌, ◌≤◌, ◌==◌, Bool, true, false, ◌&&◌, ◌||◌, not, nat_lt, List, [], ◌∷◌, ◌++◌}
 use Rattle.std.proofs.Common.{length, refl, arith, if◌then◌else◌, append_assoc, append-nil, drop, get_or}
 use Rattle.std.proofs.lemmas.List.{reverse-append, drop_more, drop_all}
-use Rattle.std.proofs.lemmas.Bool.{ne_eqb}
+use Rattle.std.proofs.lemmas.Bool.{ne_eqb, eqb-true, le-ltb, lt-ltb}
 use Rattle.std.proofs.lemmas.Bool.Decides.{nat_tests}
 use Rattle.std.proofs.lemmas.Grind.{common_steps}
 use Rattle.std.specs.Prelude.{◌≢◌, flat_map, reverse}
@@ -40,20 +40,11 @@ before_else : (t : Bool) (x : ℕ × ℕ) (b : Block) (bs : List Block) → t �
 before_else false x b bs h = refl
 before_else true x b bs h = absurd (cc)
 
-equal_from : (n m : ℕ) → (n == m) ≡ true → n ≡ m
-equal_from n m h = grind (arith, nat_tests)
-
 other_from : (n m : ℕ) → (n == m) ≡ false → n ≢ m
 other_from n m h e = grind (arith, nat_tests)
 
 equal_test : (n : ℕ) → (n == n) ≡ true
 equal_test n = grind (arith, common_steps)
-
-below_test : (n m : ℕ) → n < m → nat_lt n m ≡ true
-below_test n m h = grind (arith, common_steps)
-
-not_below : (n m : ℕ) → m ≤ n → nat_lt n m ≡ false
-not_below n m h = grind (arith, common_steps)
 
 -- e: it begins right behind; f: it is full; r: there is room
 apart_if : (e f r : Bool) → (f || not e) ≡ true → (f ≡ true → r ≡ false) → (e && r) ≡ false
@@ -77,7 +68,7 @@ joined_blocks start (b ∷ bs) out new count first x h at few is =
     let room : length b.words < 2 ^ 17 = omega (arith, h.0) in
     let more : count + 1 ≡ length (x.1 ∷ b.words) = omega (arith, h.0) in
     let test : (b.address == x.0 + 1 && nat_lt (length b.words) (2 ^ 17)) ≡ true =
-    rw (ap (λ p. p == x.0 + 1) behind ∙ equal_test (x.0 + 1), below_test (length b.words) (2 ^ 17) room) refl in
+    rw (ap (λ p. p == x.0 + 1) behind ∙ equal_test (x.0 + 1), lt-ltb (length b.words) (2 ^ 17) room) refl in
     subst (λ (l : List Block). IsWritten start l new (count + 1) x.0)
     (sym (before_if (b.address == x.0 + 1 && nat_lt (length b.words) (2 ^ 17)) x b bs test))
     (more, omega arith, refl, ap reverse is ∙ (reverse_push out x.1 ∙ ap (λ l. x.1 ∷ l) h.3))
@@ -87,7 +78,7 @@ pub joined_word : (start : ℕ) (bs : List Block) (out new : List ℕ) (count fi
     → IsWritten start bs out count first → IsWritten start (block_before x bs) new (count + 1) x.0
 joined_word start bs out new count first x apart e joins few is h =
     let p = joined_if (first == x.0 + 1) (count == 2 ^ 17) (sym e ∙ joins) in
-    let at : first ≡ x.0 + 1 = equal_from first (x.0 + 1) p.0 in
+    let at : first ≡ x.0 + 1 = eqb-true first (x.0 + 1) p.0 in
     let full : count ≢ 2 ^ 17 = other_from count (2 ^ 17) p.1 in
     joined_blocks start bs out new count first x h at (omega arith) is
 
@@ -102,7 +93,7 @@ parted_blocks start (b ∷ bs) out mid new count first x h apart is ends =
     sym (ap (λ n. is_apart n b.address x.0) h.0) ∙ (sym (ap (λ p. is_apart count p x.0) h.2) ∙ apart) in
     let test =
     apart_if (b.address == x.0 + 1) (length b.words == 2 ^ 17) (nat_lt (length b.words) (2 ^ 17)) other
-    (λ full. let all = equal_from (length b.words) (2 ^ 17) full in not_below (length b.words) (2 ^ 17) (omega (arith, all))) in
+    (λ full. let all = eqb-true (length b.words) (2 ^ 17) full in le-ltb (length b.words) (2 ^ 17) (omega (arith, all))) in
     subst (λ (l : List Block). IsWritten start l new 1 x.0)
     (sym (before_else (b.address == x.0 + 1 && nat_lt (length b.words) (2 ^ 17)) x b bs test))
     (refl, omega arith, refl, ap reverse ends ∙ (reverse_push mid x.1 ∙ ap (λ l. x.1 ∷ l) (ap reverse is ∙ closed start (b ∷ bs) out count first h)))

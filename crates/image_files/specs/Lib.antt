@@ -1,6 +1,7 @@
 pub mod Images
 pub mod Saves
 pub mod Packings
+pub mod WordForms
 pub mod Unpacks
 pub mod Loads
 pub mod Writes

@@ -49,7 +49,7 @@ fn fits(alloc: Global, wanted: Wanted, packing: Packing, bytes: &[u8]) -> Result
     }
 }
 
-/// The one packing that fits, of which it is told whether each does.
+/// The packing that fits, where exactly one does, by whether each does.
 fn only_one(core: bool, dense: bool, ascii: bool, simh: bool, octal: bool) -> Option<Packing>
     ensures { result ≡ only_one (if_fits core CoreDump (if_fits dense HighDensity
         (if_fits ascii AnsiAscii (if_fits simh Simh (if_fits octal Octal []))))) }

@@ -1,72 +1,39 @@
 //! Words read from bytes that they were packed in.
 ghost use Rattle.std.specs.Prelude.{◌≡◌, ◌+◌, ◌<◌, length, vec_len};
-ghost use Rattle.image_files.specs.Packings.{unpacked, core_words, ascii_words, simh_words, dense_words, five_bytes, second_word};
-ghost use Rattle.image_files.specs.Packings.{ascii_value, are_characters, simh_value, is_simh};
+ghost use Rattle.image_files.specs.Packings.{unpacked, dense_words, second_word};
 ghost use Rattle.image_files.specs.Unpacks.{Unpacks, with_words};
+ghost use Rattle.image_files.specs.WordForms.{numbered_words};
 
-use crate::octal_lines::unpack_octal;
 use crate::packings::{PackError, PackErrorKind, Packing};
+use crate::word_forms::{WordForm, five_bytes};
 use std::alloc::Global;
 use word36::Word;
 
-/// The word of four bytes of 8 bits and its last 4 bits.
-fn five_bytes(a: u8, b: u8, c: u8, d: u8, last: u8) -> Word
-    requires { last < 16 }
-    ensures { result ≡ five_bytes a b c d last }
+/// The words of bytes, where each word has bytes of its own, or the first word whose bytes are at fault.
+fn unpack_each(alloc: Global, form: WordForm, bytes: &[u8]) -> Result<Vec<Word>, PackError>
+    ensures { Unpacks result (numbered_words form 1 bytes.now) }
 {
-    Word::new(
-        u64::from(a) * (1 << 28)
-            + u64::from(b) * (1 << 20)
-            + u64::from(c) * (1 << 12)
-            + u64::from(d) * (1 << 4)
-            + u64::from(last),
-    )
-}
-
-/// Whether four bytes are 7-bit characters.
-fn are_characters(a: u8, b: u8, c: u8, d: u8) -> bool
-    ensures { result ≡ are_characters a b c d }
-{
-    a < 128 && b < 128 && c < 128 && d < 128
-}
-
-/// The word of four 7-bit characters, and of a fifth with bit 35 at its top.
-fn ascii_value(a: u8, b: u8, c: u8, d: u8, e: u8) -> Word
-    requires a { a < 128 }
-    requires b { b < 128 }
-    requires c { c < 128 }
-    requires d { d < 128 }
-    ensures { result ≡ ascii_value a b c d e }
-{
-    Word::new(
-        u64::from(a) * (1 << 29)
-            + u64::from(b) * (1 << 22)
-            + u64::from(c) * (1 << 15)
-            + u64::from(d) * (1 << 8)
-            + u64::from(e % 128) * 2
-            + u64::from(e / 128),
-    )
-}
-
-/// Whether the high four of eight bytes leave the bits above 36 at 0.
-fn is_simh(e: u8, f: u8, g: u8, h: u8) -> bool
-    ensures { result ≡ is_simh e f g h }
-{
-    e < 16 && f == 0 && g == 0 && h == 0
-}
-
-/// The word of five bytes, the lowest first.
-fn simh_value(a: u8, b: u8, c: u8, d: u8, e: u8) -> Word
-    requires { e < 16 }
-    ensures { result ≡ simh_value a b c d e }
-{
-    Word::new(
-        u64::from(e) * (1 << 32)
-            + u64::from(d) * (1 << 24)
-            + u64::from(c) * (1 << 16)
-            + u64::from(b) * (1 << 8)
-            + u64::from(a),
-    )
+    let size = form.size();
+    let mut words = Vec::new(alloc);
+    let mut rest = bytes;
+    while !rest.is_empty() {
+        let number = words.len() + 1;
+        if rest.len() < size {
+            return Err(PackError::Word {
+                number,
+                kind: PackErrorKind::CutShort,
+            });
+        }
+        let Some(word) = form.read(rest) else {
+            return Err(PackError::Word {
+                number,
+                kind: form.fault(),
+            });
+        };
+        words.push(word)?;
+        rest = &rest[size..];
+    }
+    Ok(words)
 }
 
 /// The second word of nine bytes: the low 4 bits of the fifth, and the four behind it.
@@ -80,84 +47,6 @@ fn second_word(e: u8, f: u8, g: u8, h: u8, i: u8) -> Word
             + u64::from(h) * (1 << 8)
             + u64::from(i),
     )
-}
-
-#[tactic(auto, using(crate::proofs::UnpackLemmas::core_short, crate::proofs::UnpackLemmas::core_extra))]
-fn unpack_core(alloc: Global, bytes: &[u8]) -> Result<Vec<Word>, PackError>
-    ensures { Unpacks result (core_words 1 bytes.now) }
-{
-    let mut words = Vec::new(alloc);
-    let mut rest = bytes;
-    while !rest.is_empty() {
-        let number = words.len() + 1;
-        if rest.len() < 5 {
-            return Err(PackError::Word {
-                number,
-                kind: PackErrorKind::CutShort,
-            });
-        }
-        if rest[4] >= 16 {
-            return Err(PackError::Word {
-                number,
-                kind: PackErrorKind::ExtraBits,
-            });
-        }
-        words.push(five_bytes(rest[0], rest[1], rest[2], rest[3], rest[4]))?;
-        rest = &rest[5..];
-    }
-    Ok(words)
-}
-
-#[tactic(auto, using(crate::proofs::UnpackLemmas::ascii_short, crate::proofs::UnpackLemmas::ascii_extra))]
-fn unpack_ascii(alloc: Global, bytes: &[u8]) -> Result<Vec<Word>, PackError>
-    ensures { Unpacks result (ascii_words 1 bytes.now) }
-{
-    let mut words = Vec::new(alloc);
-    let mut rest = bytes;
-    while !rest.is_empty() {
-        let number = words.len() + 1;
-        if rest.len() < 5 {
-            return Err(PackError::Word {
-                number,
-                kind: PackErrorKind::CutShort,
-            });
-        }
-        if !are_characters(rest[0], rest[1], rest[2], rest[3]) {
-            return Err(PackError::Word {
-                number,
-                kind: PackErrorKind::ExtraBits,
-            });
-        }
-        words.push(ascii_value(rest[0], rest[1], rest[2], rest[3], rest[4]))?;
-        rest = &rest[5..];
-    }
-    Ok(words)
-}
-
-#[tactic(auto, using(crate::proofs::UnpackLemmas::simh_short, crate::proofs::UnpackLemmas::simh_extra))]
-fn unpack_simh(alloc: Global, bytes: &[u8]) -> Result<Vec<Word>, PackError>
-    ensures { Unpacks result (simh_words 1 bytes.now) }
-{
-    let mut words = Vec::new(alloc);
-    let mut rest = bytes;
-    while !rest.is_empty() {
-        let number = words.len() + 1;
-        if rest.len() < 8 {
-            return Err(PackError::Word {
-                number,
-                kind: PackErrorKind::CutShort,
-            });
-        }
-        if !is_simh(rest[4], rest[5], rest[6], rest[7]) {
-            return Err(PackError::Word {
-                number,
-                kind: PackErrorKind::ExtraBits,
-            });
-        }
-        words.push(simh_value(rest[0], rest[1], rest[2], rest[3], rest[4]))?;
-        rest = &rest[8..];
-    }
-    Ok(words)
 }
 
 /// Adds the last word of high density, at fewer than nine bytes: none where there are no bytes.
@@ -212,10 +101,10 @@ pub fn unpack(alloc: Global, packing: Packing, bytes: &[u8]) -> Result<Vec<Word>
     ensures { Unpacks result (unpacked packing bytes.now) }
 {
     match packing {
-        Packing::CoreDump => unpack_core(alloc, bytes),
+        Packing::CoreDump => unpack_each(alloc, WordForm::CoreDump, bytes),
         Packing::HighDensity => unpack_dense(alloc, bytes),
-        Packing::AnsiAscii => unpack_ascii(alloc, bytes),
-        Packing::Simh => unpack_simh(alloc, bytes),
-        Packing::Octal => unpack_octal(alloc, bytes),
+        Packing::AnsiAscii => unpack_each(alloc, WordForm::AnsiAscii, bytes),
+        Packing::Simh => unpack_each(alloc, WordForm::Simh, bytes),
+        Packing::Octal => unpack_each(alloc, WordForm::Octal, bytes),
     }
 }

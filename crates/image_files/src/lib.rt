@@ -15,6 +15,7 @@ mod save_reader;
 mod save_writer;
 mod saves;
 mod to_bytes;
+mod word_forms;
 
 pub use core_images::{read_image, read_words};
 pub use faults::{ImageError, ImageFault};

@@ -1,35 +1,24 @@
 //! Words as text: a line a word, its two halves in octal.
-ghost use Rattle.std.specs.Prelude.{◌≡◌, ◌+◌, ◌≤◌, ◌<◌, ◌^◌, ◌++◌, IfOk, OnOk, flat_map, length};
-ghost use Rattle.image_files.specs.Packings.{are_marks, are_octal_digits, half_value, is_octal_digit, octal_bytes, octal_words};
-ghost use Rattle.image_files.specs.Unpacks.{Unpacks, begins_with_line, digits_at, half_at, line_value};
+ghost use Rattle.std.specs.Prelude.{◌≡◌, ◌+◌, ◌≤◌, ◌<◌, ◌^◌, ◌++◌, OnOk, length};
+ghost use Rattle.image_files.specs.Packings.{are_marks, are_octal_digits, half_value, is_octal_digit, octal_bytes};
+ghost use Rattle.image_files.specs.WordForms.{begins_with_line, digits_at, half_at, line_value, word_in};
+ghost use Rattle.image_files.specs.declared.word_forms.WordForm.TheVariants as forms;
 
-use crate::packings::{PackError, PackErrorKind};
 use script_io::push_word;
-use std::alloc::{AllocError, Global};
+use std::alloc::AllocError;
 use word36::Word;
 
 /// The characters of a line: six digits, two commas, six digits and a line feed.
-const LINE: usize = 15;
+pub(crate) const LINE: usize = 15;
 
 /// Adds the line of a word.
 #[tactic(auto, using(std::proofs::Common::append_assoc))]
-fn push_line(text: &mut Vec<u8>, word: Word) -> Result<(), AllocError>
+pub(crate) fn push_line(text: &mut Vec<u8>, word: Word) -> Result<(), AllocError>
     ensures { OnOk result (text.new.items ≡ text.old.items ++ octal_bytes word) }
 {
     push_word(text, word)?;
     text.push(b'\n')?;
     Ok(())
-}
-
-/// The lines of words.
-pub(crate) fn pack_octal(alloc: Global, words: &[Word]) -> Result<Vec<u8>, AllocError>
-    ensures { IfOk result (λ text. text.items ≡ flat_map octal_bytes words.now) }
-{
-    let mut text = Vec::new(alloc);
-    for word in words {
-        push_line(&mut text, *word)?;
-    }
-    Ok(text)
 }
 
 /// Whether a character is an octal digit.
@@ -39,7 +28,7 @@ fn is_digit(character: u8) -> bool
     character >= b'0' && character < b'8'
 }
 
-/// Whether six characters from a place on are octal digits.
+/// Whether six characters from a position on are octal digits.
 fn digits_at(line: &[u8], at: usize) -> bool
     requires { at + 6 ≤ length line.now }
     ensures { result ≡ digits_at line.now at }
@@ -52,7 +41,7 @@ fn digits_at(line: &[u8], at: usize) -> bool
         && is_digit(line[at + 5])
 }
 
-/// The half of a word that six digits from a place on are.
+/// The half of a word whose six digits stand from a position on.
 fn half_at(line: &[u8], at: usize) -> u32
     requires { at + 6 ≤ length line.now }
     ensures value { result ≡ half_at line.now at }
@@ -88,29 +77,13 @@ fn line_value(bytes: &[u8]) -> Word
     Word::join(half_at(bytes, 0), half_at(bytes, 8))
 }
 
-/// The words of lines, or the first line at fault.
-#[tactic(auto, using(crate::proofs::OctalLines::octal_short, crate::proofs::OctalLines::octal_wrong))]
-pub(crate) fn unpack_octal(alloc: Global, text: &[u8]) -> Result<Vec<Word>, PackError>
-    ensures { Unpacks result (octal_words 1 text.now) }
+/// The word of the line that bytes begin with, where they begin with one.
+pub(crate) fn read_line(bytes: &[u8]) -> Option<Word>
+    requires { 15 ≤ length bytes.now }
+    ensures { result ≡ word_in forms.Octal bytes.now }
 {
-    let mut words = Vec::new(alloc);
-    let mut rest = text;
-    while !rest.is_empty() {
-        let number = words.len() + 1;
-        if rest.len() < LINE {
-            return Err(PackError::Word {
-                number,
-                kind: PackErrorKind::CutShort,
-            });
-        }
-        if !begins_with_line(rest) {
-            return Err(PackError::Word {
-                number,
-                kind: PackErrorKind::NotOctal,
-            });
-        }
-        words.push(line_value(rest))?;
-        rest = &rest[LINE..];
+    if !begins_with_line(bytes) {
+        return None;
     }
-    Ok(words)
+    Some(line_value(bytes))
 }
