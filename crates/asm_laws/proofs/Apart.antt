@@ -3,7 +3,7 @@ use Rattle.std.proofs.Common.{◌≡◌, ◌∙◌, sym, ap, ℕ, zero, suc, ◌
 use Rattle.std.proofs.Common.{nat_eq, List, [], ◌∷◌, ◌++◌, Option, Some, None, refl, arith}
 use Rattle.std.specs.Prelude.{◌^◌, ◌||◌, not, nat_le, nat_lt, ◌==◌, if◌then◌else◌}
 use Rattle.std.specs.List.{range_with_len, list_any}
-use Rattle.std.proofs.lemmas.Bool.{and_parts, and_from, or_parts, or_from, not-true, not_from_false}
+use Rattle.std.proofs.lemmas.Bool.{and_parts, and_from, or_parts, or_from, not-true, not_from_false, ltb-true, lt-ltb}
 use Rattle.std.proofs.lemmas.List.Folds.{list_any-append}
 use Rattle.std.proofs.lemmas.Grind.{common_steps}
 use Rattle.mac_layout.specs.declared.error.AsmCode.{AsmCode}
@@ -73,16 +73,10 @@ range-apart p (suc n) =
     let next : p < p + 1 = omega arith in
     and_from _ _ (not_from_false (list_any (nat_eq p) (range_with_len (p + 1) n)) (below-none p (p + 1) n next)) (range-apart (p + 1) n)
 
-pub lt-from : (n m : ℕ) → nat_lt n m ≡ true → n < m
-lt-from n m h = grind (arith, common_steps)
-
-pub lt-test : (n m : ℕ) → n < m → nat_lt n m ≡ true
-lt-test n m h = grind (arith, common_steps)
-
 -- addresses in a row are below 2 ^ 18 where the last is
 range-low : (p n : ℕ) → are_below (range_with_len p (suc n)) ≡ true → p + suc n ≤ 2 ^ 18
 range-low p zero h =
-    let l = lt-from p (2 ^ 18) (and_parts (nat_lt p (2 ^ 18)) true h).0 in
+    let l = ltb-true p (2 ^ 18) (and_parts (nat_lt p (2 ^ 18)) true h).0 in
     omega (arith, l)
 range-low p (suc n) h =
     let p' = p + 1 in
@@ -94,7 +88,7 @@ low-range p zero h = refl
 low-range p (suc n) h =
     let here : p < 2 ^ 18 = omega (arith, h) in
     let next : p + 1 + n ≤ 2 ^ 18 = omega (arith, h) in
-    and_from _ _ (lt-test p (2 ^ 18) here) (low-range (p + 1) n next)
+    and_from _ _ (lt-ltb p (2 ^ 18) here) (low-range (p + 1) n next)
 
 pub least-none : (a b : Option AsmCode) → least a b ≡ None → (a ≡ None) × (b ≡ None)
 unfolding least

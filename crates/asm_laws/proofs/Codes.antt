@@ -16,20 +16,17 @@ use Rattle.mac_asm.specs.Assembly.{words_at, have_words, are_allowed, start_at, 
 use Rattle.asm_laws.specs.Found.{map_of}
 use Rattle.mac_layout.specs.Faults.{Fault, unless_fault}
 use Rattle.mac_layout.specs.LaidOut.{Layout, empty_layout, laid_out, addresses_of_literals}
-use Rattle.mac_asm.specs.Outcome.{lines_with, line_words, has_start, is_line_known, value_code, and_words, words_given}
-use Rattle.mac_asm.specs.Outcome.{image_with, outcome_placed, outcome_from, has_end, outcome_read, outcome_of}
+use Rattle.mac_asm.specs.Outcome.{lines_with, line_words, has_start, is_line_known, value_code, words_given}
+use Rattle.mac_asm.specs.Outcome.{outcome_placed, outcome_from, has_end, outcome_read, outcome_of}
 use Rattle.asm_laws.specs.Faults.{all_fit, TellsCode}
 use Rattle.asm_laws.specs.Laws.{addresses_taken}
-use Rattle.asm_laws.proofs.Options.{bind_some}
+use Rattle.asm_laws.proofs.Options.{bind_some, known-some}
 use Rattle.asm_laws.proofs.Ends.{ends_once, end-is-last}
 use Rattle.asm_laws.proofs.Given.{gather-words}
 use Rattle.asm_laws.proofs.Told.{laid-placed, line_at, placed-lines, start-all}
 use Rattle.asm_laws.proofs.Phases.{of_layout, of_values, layout-codes, values-codes}
 use Rattle.asm_laws.proofs.Laying.{laid-clear}
-
-image-err : (start : ℕ) (r : Result (List (ℕ × ℕ)) Fault) (fault : Fault) → image_with start r ≡ Err fault → r ≡ Err fault
-image-err start (Ok ws) fault h = absurd (cc)
-image-err start (Err g) fault h = cc
+use Rattle.asm_laws.proofs.Passed.{and-err, image-err}
 
 -- a fault is told of END that is missing, of laying out, or of values
 pub told-from : (lines : List Line) (r : Result Layout Fault) (fault : Fault) (Q : Type 0) → outcome_from lines r ≡ Err fault
@@ -118,10 +115,6 @@ laid-without lines q fault s f g k e l =
     own-words None f h = absurd (cc)
     own-words (Some words) f h = (words, refl)
 
-known-some : {A : Type 0} (o : Option A) → is_some o ≡ true → (x : A) × (o ≡ Some x)
-known-some None h = absurd (cc)
-known-some (Some x) h = (x, refl)
-
 no-both : (r : Result (List (ℕ × ℕ)) Fault) (ws : List (ℕ × ℕ)) (fault : Fault) → r ≡ Ok ws → r ≡ Err fault → ⊥
 no-both r ws fault h k = cc
 
@@ -158,10 +151,6 @@ unless-told n (Some code) r fault Q h f g =
     let told : Fault = record { line = n; code = code } in
     let same : told ≡ fault = cc in
     f (ap (λ x. Some x.code) same)
-
-and-err : (first : List (ℕ × ℕ)) (r : Result (List (ℕ × ℕ)) Fault) (fault : Fault) → and_words first r ≡ Err fault → r ≡ Err fault
-and-err first (Ok more) fault h = absurd (cc)
-and-err first (Err g) fault h = cc
 
 unknown-line : (lines : List Placed) (n : ℕ) (fault : Fault) → words_given n lines ≡ Err fault → fault.code ≡ UnknownName
     → list_all is_line_known lines ≡ false

@@ -11,7 +11,8 @@ use Rattle.mac_layout.specs.Addresses.{Labels, Placed}
 use Rattle.mac_asm.specs.Assembly.{Assembled}
 use Rattle.mac_layout.specs.Faults.{Fault, unless_fault}
 use Rattle.mac_layout.specs.LaidOut.{Layout, empty_layout, line_code, laid_out, addresses_of_literals, with_line as layout_behind}
-use Rattle.mac_asm.specs.Outcome.{lines_with, value_code, and_words, words_given, image_with, outcome_placed, outcome_from, has_end, outcome_read, outcome_of}
+use Rattle.mac_asm.specs.Outcome.{lines_with, value_code, words_given, outcome_placed, outcome_from, has_end, outcome_read, outcome_of}
+use Rattle.asm_laws.proofs.Passed.{and-err, image-err}
 
 -- at least n, and of so many
 abbrev Within : ℕ → ℕ → ℕ → Type 0
@@ -40,10 +41,6 @@ laid-within (line ∷ lines) s n fault h =
     unless-err n (line_code s line) (laid_out (layout_behind s line) (n + 1) lines) fault h (length lines)
     (λ g e. within-more n g.line (length lines) (laid-within lines (layout_behind s line) (n + 1) g e))
 
-and-err : (first : List (ℕ × ℕ)) (r : Result (List (ℕ × ℕ)) Fault) (fault : Fault) → and_words first r ≡ Err fault → r ≡ Err fault
-and-err first (Ok more) fault h = absurd (cc)
-and-err first (Err g) fault h = cc
-
 pub given-within : (lines : List Placed) (n : ℕ) (fault : Fault) → words_given n lines ≡ Err fault
     → Within n fault.line (length lines)
 unfolding words_given
@@ -61,10 +58,6 @@ placed-short (line ∷ lines) m (p ∷ addresses) lits =
     let i : length (lines_with m addresses (drop (length line.literals) lits) lines) ≤ length lines =
     placed-short lines m addresses (drop (length line.literals) lits) in
     omega (arith, i)
-
-image-err : (start : ℕ) (r : Result (List (ℕ × ℕ)) Fault) (fault : Fault) → image_with start r ≡ Err fault → r ≡ Err fault
-image-err start (Ok ws) fault h = absurd (cc)
-image-err start (Err g) fault h = cc
 
 from-within : (lines : List Line) (r : Result Layout Fault) (fault : Fault) → outcome_from lines r ≡ Err fault
     → ((g : Fault) → r ≡ Err g → Within 1 g.line (length lines))

@@ -14,7 +14,8 @@ use Rattle.mac_layout.specs.LaidOut.{Layout, empty_layout, line_code, with_line,
 use Rattle.mac_asm.specs.Outcome.{line_words, value_code, and_words, words_given, outcome_from, has_end, outcome_read, outcome_of}
 use Rattle.asm_laws.specs.Faults.{FirstLaid, FirstGiven, TellsFirst}
 use Rattle.asm_laws.proofs.Codes.{told-from}
-use Rattle.asm_laws.proofs.Told.{laid-placed}
+use Rattle.asm_laws.proofs.Told.{laid-placed, if-same}
+use Rattle.asm_laws.proofs.Passed.{and-err}
 
 -- a fault of the first line, or of those behind it
 fault-of : {A : Type 0} (n : ℕ) (o : Option AsmCode) (r : Result A Fault) (fault : Fault) (Q : Type 0) → unless_fault n o r ≡ Err fault
@@ -76,10 +77,6 @@ record GivenFrom (n : ℕ) (lines : List Placed) (fault : Fault) : Type 0 where
   without : words_given n above ≡ Ok words
   told : value_code line ≡ Some fault.code
 
-and-err : (first : List (ℕ × ℕ)) (r : Result (List (ℕ × ℕ)) Fault) (fault : Fault) → and_words first r ≡ Err fault → r ≡ Err fault
-and-err first (Ok more) fault h = absurd (cc)
-and-err first (Err g) fault h = cc
-
 given-from : (lines : List Placed) (n : ℕ) (fault : Fault) → words_given n lines ≡ Err fault → GivenFrom n lines fault
 unfolding words_given
 given-from [] n fault h = absurd (cc)
@@ -136,10 +133,6 @@ first-given lines fault h =
       without = i.without;
       told = i.told;
     }
-
-pub if-same : (b : Bool) (r : Result Assembled Fault) (fault : Fault) → b ≡ true → (if b then r else Err fault) ≡ r
-if-same true r fault h = refl
-if-same false r fault h = absurd (cc)
 
 pub first-told : (source : List ℕ) (lines : List Line) (fault : Fault) → program_of source ≡ Ok lines → has_end lines ≡ true
     → outcome_of source ≡ Err fault

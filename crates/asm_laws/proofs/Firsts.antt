@@ -3,7 +3,7 @@ use Rattle.std.proofs.Common.{◌≡◌, ◌∙◌, sym, ap, subst, ℕ, ◌+◌
 use Rattle.std.proofs.Common.{unwrap_or, Option, Some, None, Result, Ok, Err, inl, inr, refl, arith}
 use Rattle.std.specs.Prelude.{◌↔◌, not, if◌then◌else◌}
 use Rattle.std.specs.List.{list_all}
-use Rattle.std.proofs.lemmas.Bool.{and_parts, and_from, cases_Bool, false_from_ne_true, not_from_false}
+use Rattle.std.proofs.lemmas.Bool.{and_parts, and_from, cases_Bool, false_from_ne_true, not_from_false, not-true}
 use Rattle.mac_text.specs.Lines.{program_of}
 use Rattle.mac_text.specs.declared.syntax.Line.{Line}
 use Rattle.mac_layout.specs.declared.error.AsmCode.{AsmCode}
@@ -18,9 +18,9 @@ use Rattle.mac_asm.specs.Outcome.{outcome_placed, outcome_from, has_end, outcome
 use Rattle.asm_laws.specs.Faults.{FirstLaid, FirstGiven}
 use Rattle.asm_laws.specs.Codes.{LaidFault, is_given, is_value_wrong, ValueFault, IsTold}
 use Rattle.asm_laws.proofs.Layouts.{AllRight, final, laid-right, right-laid}
-use Rattle.asm_laws.proofs.Told.{laid-placed}
+use Rattle.asm_laws.proofs.Told.{laid-placed, if-same}
 use Rattle.asm_laws.proofs.Codes.{told-from}
-use Rattle.asm_laws.proofs.First.{first-laid, first-given, if-same}
+use Rattle.asm_laws.proofs.First.{first-laid, first-given}
 use Rattle.asm_laws.proofs.Wrong.{code-least, least-code, all-are, are-all}
 use Rattle.asm_laws.proofs.Known.{given-known, placed-have}
 
@@ -84,10 +84,6 @@ wrong-code at code h =
       | inr k ↦ ap (λ b. is_value_wrong at (if b then DoesNotFit else UnknownName)) k ∙ not_from_false (is_line_known at) k
     ]
 
-not-false : (b : Bool) → not b ≡ true → b ≡ false
-not-false true h = absurd (cc)
-not-false false h = refl
-
 code-same : (given known : Bool) (code : AsmCode) → given ≡ false → (if known then DoesNotFit else UnknownName) ≡ code
     → (if given then None else Some (if known then DoesNotFit else UnknownName)) ≡ Some code
 code-same true known code h k = absurd (cc)
@@ -101,13 +97,13 @@ code-wrong : (at : Placed) (code : AsmCode) → (is_given at ≡ true → is_lin
 unfolding value_code
 code-wrong at Syntax f h = no-code h
 code-wrong at UnknownName f h =
-    let unknown : is_line_known at ≡ false = not-false (is_line_known at) h in
+    let unknown : is_line_known at ≡ false = not-true (is_line_known at) h in
     let none : is_given at ≡ false = false_from_ne_true (is_given at) (λ k. (let known = f k in cc)) in
     code-same (is_given at) (is_line_known at) UnknownName none (ap (λ b. if b then DoesNotFit else UnknownName) unknown)
 code-wrong at DefinedTwice f h = no-code h
 code-wrong at DoesNotFit f h =
     let b = and_parts (is_line_known at) (not (is_given at)) h in
-    code-same (is_given at) (is_line_known at) DoesNotFit (not-false (is_given at) b.1) (ap (λ b. if b then DoesNotFit else UnknownName) b.0)
+    code-same (is_given at) (is_line_known at) DoesNotFit (not-true (is_given at) b.1) (ap (λ b. if b then DoesNotFit else UnknownName) b.0)
 code-wrong at NotYetDefined f h = no-code h
 code-wrong at AddressTooHigh f h = no-code h
 code-wrong at NoEnd f h = no-code h

@@ -12,7 +12,7 @@ use Rattle.mac_layout.specs.Addresses.{Placed}
 use Rattle.mac_asm.specs.Assembly.{statement_words, literal_words, all_statement_words, all_literal_words}
 use Rattle.mac_layout.specs.Faults.{Fault, unless_fault}
 use Rattle.mac_asm.specs.Outcome.{line_words, has_start, value_code, and_words, words_given}
-use Rattle.asm_laws.proofs.Options.{some_parts, bind_some, bind_at}
+use Rattle.asm_laws.proofs.Options.{some_parts, bind_some, bind_at, known-some}
 
 abbrev Words : Type 0
 Words = List (ℕ × ℕ)
@@ -46,10 +46,6 @@ none-told : (a b : Bool) (code : AsmCode) → a ≡ true → b ≡ true → (if 
 none-told true true code h k = refl
 none-told true false code h k = absurd (cc)
 none-told false b code h k = absurd (cc)
-
-known-some : {A : Type 0} (o : Option A) → is_some o ≡ true → (x : A) × (o ≡ Some x)
-known-some None h = absurd (cc)
-known-some (Some x) h = (x, refl)
 
 unless-ok : (n : ℕ) (o : Option AsmCode) (r : Result Words Fault) (ws : Words) → unless_fault n o r ≡ Ok ws → (o ≡ None) × (r ≡ Ok ws)
 unless-ok n None r ws h = (refl, h)

@@ -1,4 +1,5 @@
 pub mod Options
+pub mod Passed
 pub mod Maps
 pub mod Unique
 pub mod Found

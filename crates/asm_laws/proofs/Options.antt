@@ -35,3 +35,7 @@ pub is_some_bind : {A B : Type 0} (o : Option A) (f : A → Option B) (b : Bool)
     → is_some (o >>= f) ≡ (is_some o && b)
 is_some_bind None f b h = refl
 is_some_bind (Some a) f b h = h a
+
+pub known-some : {A : Type 0} (o : Option A) → is_some o ≡ true → (x : A) × (o ≡ Some x)
+known-some None h = absurd (cc)
+known-some (Some x) h = (x, refl)

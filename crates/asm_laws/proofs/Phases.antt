@@ -23,9 +23,10 @@ use Rattle.mac_layout.specs.Faults.{Fault, number_of, least, code_if, code_of, u
 use Rattle.mac_layout.specs.LaidOut.{count_if, count_from, count_or, checked_count, checked_size, at_least_one, literal_size, Layout}
 use Rattle.mac_layout.specs.LaidOut.{empty_layout, addresses_in, taking, taking_size, taking_all, labels_code, with_labels, with_statement}
 use Rattle.mac_layout.specs.LaidOut.{statement_code, line_code, laid_out, addresses_of_literals, with_line as layout_behind}
-use Rattle.mac_asm.specs.Outcome.{lines_with, line_words, has_start, is_line_known, value_code, and_words, words_given}
-use Rattle.mac_asm.specs.Outcome.{image_with, outcome_placed, outcome_from, has_end, outcome_read, outcome_of}
+use Rattle.mac_asm.specs.Outcome.{lines_with, line_words, has_start, is_line_known, value_code, words_given}
+use Rattle.mac_asm.specs.Outcome.{outcome_placed, outcome_from, has_end, outcome_read, outcome_of}
 use Rattle.asm_laws.proofs.Unique.{own}
+use Rattle.asm_laws.proofs.Passed.{and-err, image-err}
 
 -- the codes of laying out, and those of values
 abbrev pub of_layout : AsmCode → Bool
@@ -181,20 +182,12 @@ values-line at = test (is_some (line_words at) && has_start at.names at.line.sta
     test false true = refl
     test false false = refl
 
-and-err : (first : List (ℕ × ℕ)) (r : Result (List (ℕ × ℕ)) Fault) (fault : Fault) → and_words first r ≡ Err fault → r ≡ Err fault
-and-err first (Ok more) fault h = absurd (cc)
-and-err first (Err g) fault h = cc
-
 pub values-codes : (lines : List Placed) (n : ℕ) (fault : Fault) → words_given n lines ≡ Err fault → of_values fault.code ≡ true
 unfolding words_given
 values-codes [] n fault h = absurd (cc)
 values-codes (at ∷ later) n fault h =
     passes-unless of_values n (value_code at) _ fault h (values-line at)
     (λ e. values-codes later (n + 1) fault (and-err _ (words_given (n + 1) later) fault e))
-
-image-err : (start : ℕ) (r : Result (List (ℕ × ℕ)) Fault) (fault : Fault) → image_with start r ≡ Err fault → r ≡ Err fault
-image-err start (Ok ws) fault h = absurd (cc)
-image-err start (Err g) fault h = cc
 
 -- no line that was read is told to be out of the grammar, nor that END is missing
 abbrev of_lines : AsmCode → Bool

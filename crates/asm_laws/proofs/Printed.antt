@@ -2,7 +2,7 @@
 use Rattle.std.proofs.Common.{◌≡◌, ◌<◌, ◌∙◌, sym, ap, ℕ, ◌+◌, ◌*◌, ◌/◌, ◌%◌, ◌^◌, ◌==◌, Bool, true, false, nat_eq, nat_le}
 use Rattle.std.proofs.Common.{[], ◌∷◌, Option, Some, None, option_map, if◌then◌else◌, arith, refl}
 use Rattle.std.specs.Prelude.{pos}
-use Rattle.std.proofs.lemmas.Bool.{le-leb}
+use Rattle.std.proofs.lemmas.Bool.{cond-true, eqb-true, le-leb}
 use Rattle.std.proofs.lemmas.Bool.Decides.{nat_tests}
 use Rattle.word36.specs.Words.{left_half, right_half}
 use Rattle.ka_isa.specs.declared.Fields.{Fields}
@@ -12,23 +12,19 @@ use Rattle.mac_text.specs.Printed.{number_alone, unless_zero, instruction_with, 
 use Rattle.mac_layout.specs.Values.{◌>>=◌, Names, value_of, residue_of}
 use Rattle.mac_asm.specs.Words.{fitted, half_of, register_of, or_zero, operand_of, with_accumulator, with_operand, instruction_of, halves_of, words_of}
 
-cond-true : {A : Type 0} (b : Bool) (x y : A) → b ≡ true → (if b then x else y) ≡ x
-cond-true true x y h = refl
-cond-true false x y h = absurd (cc)
-
-value-number : (names : Names) (n : ℕ) → value_of names (number_alone n) ≡ Some (pos n)
+pub value-number : (names : Names) (n : ℕ) → value_of names (number_alone n) ≡ Some (pos n)
 unfolding value_of
 value-number names n =
     let e : 0 + n ≡ n = omega (arith) in
     ap (λ p. Some (pos p)) e
 
-half-residue : (n : ℕ) → n < 2 ^ 18 → residue_of 262143 262143 262144 (pos n) ≡ Some n
+pub half-residue : (n : ℕ) → n < 2 ^ 18 → residue_of 262143 262143 262144 (pos n) ≡ Some n
 unfolding residue_of
 half-residue n h =
     let e : n % 262144 ≡ n = omega (arith, h) in
     cond-true (nat_le n 262143) _ _ (le-leb n 262143 (omega (arith, h))) ∙ ap Some e
 
-register-residue : (n : ℕ) → n < 2 ^ 4 → residue_of 0 15 16 (pos n) ≡ Some n
+pub register-residue : (n : ℕ) → n < 2 ^ 4 → residue_of 0 15 16 (pos n) ≡ Some n
 unfolding residue_of
 register-residue n h =
     let e : n % 16 ≡ n = omega (arith, h) in
@@ -42,12 +38,9 @@ register-number : (names : Names) (n : ℕ) → n < 2 ^ 4 → register_of names 
 unfolding fitted
 register-number names n h = ap (λ o. o >>= residue_of 0 15 16) (value-number names n) ∙ register-residue n h
 
-zero-of : (n : ℕ) → (n == 0) ≡ true → n ≡ 0
-zero-of n h = grind (arith, nat_tests)
-
 index-at : (names : Names) (n : ℕ) → n < 2 ^ 4 → (b : Bool) → (n == 0) ≡ b
     → or_zero (register_of names) (if b then None else Some (number_alone n)) ≡ Some n
-index-at names n h true e = ap Some (sym (zero-of n e))
+index-at names n h true e = ap Some (sym (eqb-true n 0 e))
 index-at names n h false e = register-number names n h
 
 -- a register that is not written is 0
@@ -57,7 +50,7 @@ index-number names n h = index-at names n h (n == 0) refl
 accumulator-at : (names : Names) (f : Fields) (n : ℕ) → n < 2 ^ 4 → f.ac ≡ 0 → (b : Bool) → (n == 0) ≡ b
     → with_accumulator names f (if b then None else Some (number_alone n)) ≡ Some (record f { ac = n })
 unfolding with_accumulator
-accumulator-at names f n h z true e = ap (λ m. Some (record f { ac = m })) (z ∙ sym (zero-of n e))
+accumulator-at names f n h z true e = ap (λ m. Some (record f { ac = m })) (z ∙ sym (eqb-true n 0 e))
 accumulator-at names f n h z false e = ap (λ o. o >>= λ ac. Some (record f { ac = ac })) (register-number names n h)
 
 operand-number : (names : Names) (i : Bool) (x y : ℕ) → x < 2 ^ 4 → y < 2 ^ 18
@@ -73,23 +66,20 @@ unfolding with_operand
 operand-written names f true x y h g = ap (λ o. o >>= λ p. Some (record f { i = p.0; x = p.1; y = p.2 })) (operand-number names true x y h g)
 operand-written names f false x y h g = ap (λ o. o >>= λ p. Some (record f { i = p.0; x = p.1; y = p.2 })) (operand-number names false x y h g)
 
-bit-set : (n : ℕ) → nat_eq n 1 ≡ true → n ≡ 1
-bit-set n h = grind (arith, nat_tests)
-
 bit-clear : (n : ℕ) → n < 2 → nat_eq n 1 ≡ false → n ≡ 0
 bit-clear n l h = grind (arith, nat_tests)
 
 sum-back : (w : ℕ) (b : Bool) → nat_eq (w / 2 ^ 22 % 2) 1 ≡ b
     → w / 2 ^ 27 * 2 ^ 27 + w / 2 ^ 23 % 2 ^ 4 * 2 ^ 23 + (if b then 2 ^ 22 else 0) + w / 2 ^ 18 % 2 ^ 4 * 2 ^ 18 + w % 2 ^ 18 ≡ w
 sum-back w true h =
-    let e : w / 2 ^ 22 % 2 ≡ 1 = bit-set (w / 2 ^ 22 % 2) h in
+    let e : w / 2 ^ 22 % 2 ≡ 1 = eqb-true (w / 2 ^ 22 % 2) 1 h in
     omega (arith, e)
 sum-back w false h =
     let e : w / 2 ^ 22 % 2 ≡ 0 = bit-clear (w / 2 ^ 22 % 2) (omega (arith)) h in
     omega (arith, e)
 
 -- the word of the fields of a word is the word
-fields-back : (w : ℕ) → encoded (fields_of w) ≡ w
+pub fields-back : (w : ℕ) → encoded (fields_of w) ≡ w
 fields-back w = sum-back w (nat_eq (w / 2 ^ 22 % 2) 1) refl
 
 instruction-back : (names : Names) (w : ℕ) → w < 2 ^ 36 → instruction_of names (instruction_with (fields_of w)) ≡ Some w

@@ -3,7 +3,7 @@ use Rattle.std.proofs.Common.{◌≡◌, ◌∙◌, sym, ap, ℕ, zero, suc, ◌
 use Rattle.std.proofs.Common.{List, [], ◌∷◌, ◌++◌, map, Result, refl, arith, inl, inr}
 use Rattle.std.specs.Prelude.{◌^◌, ◌||◌, ◌==◌, not, nat_le, nat_lt, if◌then◌else◌}
 use Rattle.std.specs.List.{range_with_len, list_any}
-use Rattle.std.proofs.lemmas.Bool.{and_parts, and_from, or_from, cases_Bool, true_from_ne_false, not_from_true, not_from_false}
+use Rattle.std.proofs.lemmas.Bool.{and_parts, and_from, or_from, cases_Bool, true_from_ne_false, not_from_true, not_from_false, ltb-true}
 use Rattle.std.proofs.lemmas.List.Folds.{list_any-append, list_all-append}
 use Rattle.std.proofs.lemmas.Grind.{common_steps}
 use Rattle.mac_layout.specs.declared.error.AsmCode.{AsmCode}
@@ -12,7 +12,7 @@ use Rattle.mac_asm.specs.Assembly.{are_below}
 use Rattle.mac_layout.specs.Faults.{least}
 use Rattle.mac_layout.specs.LaidOut.{is_taken, addresses_in, count_or, taking, taking_size, taking_all}
 use Rattle.asm_laws.specs.Laws.{ranges_from}
-use Rattle.asm_laws.proofs.Apart.{apart-join, range-apart, free-high, high-free, lt-from}
+use Rattle.asm_laws.proofs.Apart.{apart-join, range-apart, free-high, high-free}
 use Rattle.asm_laws.proofs.Clear.{no-true}
 use Rattle.asm_laws.proofs.Least.{told, least-told, addresses-told, told-same}
 use Rattle.asm_laws.proofs.Sizing.{said, IsSize, said-counts}
@@ -22,7 +22,7 @@ not-above : (t : List ℕ) (p : ℕ) → are_below t ≡ true → 2 ^ 18 ≤ p �
 not-above [] p h k = refl
 not-above (x ∷ t) p h k =
     let b = and_parts (nat_lt x (2 ^ 18)) (are_below t) h in
-    let low = lt-from x (2 ^ 18) b.0 in
+    let low = ltb-true x (2 ^ 18) b.0 in
     or_from _ _ (unequal p x (omega (arith, low, k))) (not-above t p b.1 k)
   where
     unequal : (a b : ℕ) → b < a → nat_eq a b ≡ false

@@ -6,7 +6,6 @@ use Rattle.std.specs.List.{list_all}
 use Rattle.std.specs.List.Sorted.{IsPermutation}
 use Rattle.std.specs.Map.{keys_of, values_of}
 use Rattle.std.proofs.lemmas.Bool.{and_parts, and_from, not-true}
-use Rattle.std.proofs.lemmas.List.Folds.{list_all-append}
 use Rattle.std.proofs.lemmas.List.Sorted.{IsPermutation-reverse, IsPermutation-sym, IsPermutation-trans}
 use Rattle.mac_text.specs.Lines.{program_of, is_end, is_end_statement}
 use Rattle.mac_text.specs.declared.syntax.Statement.{Statement}
@@ -22,14 +21,14 @@ use Rattle.mac_layout.specs.Faults.{Fault}
 use Rattle.mac_layout.specs.LaidOut.{count_or, Layout, empty_layout, taking_all, laid_out, addresses_of_literals}
 use Rattle.mac_asm.specs.Outcome.{lines_with, has_start, words_given, image_with, outcome_placed, outcome_from, has_end, outcome_read, outcome_of}
 use Rattle.asm_laws.specs.Laws.{addresses_of, ranges_from, addresses_taken}
-use Rattle.asm_laws.proofs.Options.{some_parts, bind_some, bind_at}
+use Rattle.asm_laws.proofs.Options.{some_parts, bind_some, bind_at, known-some}
 use Rattle.asm_laws.proofs.Found.{map_is_met, met_only}
 use Rattle.asm_laws.proofs.Taken.{takes_its_addresses}
 use Rattle.asm_laws.proofs.Apart.{apart-parts}
 use Rattle.asm_laws.proofs.Counts.{all-known, all-taken, taken-all}
 use Rattle.asm_laws.proofs.Ends.{ends_once, end-is-last}
 use Rattle.asm_laws.proofs.Layouts.{AllRight, final, laid-right, right-laid, Fits, right-fits, end-right, fits-right, address_of, whole_layout, final-is}
-use Rattle.asm_laws.proofs.Wholes.{Whole, fits-whole, whole-fits}
+use Rattle.asm_laws.proofs.Wholes.{Whole, fits-whole, whole-fits, all-append}
 use Rattle.asm_laws.proofs.Given.{starts, Gathers, words-gather, gather-words}
 use Rattle.asm_laws.proofs.Order.{by_address-permuted}
 
@@ -103,10 +102,6 @@ start-last [] start s = absurd (cc)
 start-last (at ∷ []) start s = start-end at.names at.line.statement start s
 start-last (at ∷ next ∷ lines) start s = start-last (next ∷ lines) start s
 
-known-some : {A : Type 0} (o : Option A) → is_some o ≡ true → (x : A) × (o ≡ Some x)
-known-some None h = absurd (cc)
-known-some (Some x) h = (x, refl)
-
 from-ok : (lines : List Line) (r : Result Layout Fault) (image : Assembled) → outcome_from lines r ≡ Ok image
     → (s : Layout) × (r ≡ Ok s) × (outcome_placed (lines_with s.labels s.addresses (addresses_of_literals s) lines) ≡ Ok image)
 from-ok lines (Ok s) image h = (s, refl, h)
@@ -143,9 +138,6 @@ layout-placed lines =
     ap (λ z. lines_with m (map address_of (lines_at m lines)) (addresses_from (address_after m first_address lines) z) lines)
     (counted (literal_sizes m (lines_at m lines)))
     ∙ with-placed lines m first_address (literal_addresses m lines)
-
-all-append : (xs ys : List ℕ) → are_below (xs ++ ys) ≡ (are_below xs && are_below ys)
-all-append xs ys = list_all-append (λ n. nat_lt n 262144) xs ys
 
 -- what is so of lines that are laid out
 pub record LaidOut (lines : List Line) (s : Layout) : Type 0 where
@@ -240,7 +232,7 @@ record Held (m : Labels) (lines : List Line) (words : List (ℕ × ℕ)) (start 
   low : are_below (values_of m) ≡ true
   start_is : start_at (lines_placed m lines) ≡ Some start
 
-if-same : (b : Bool) (r : Result Assembled Fault) (fault : Fault) → b ≡ true → (if b then r else Err fault) ≡ r
+pub if-same : (b : Bool) (r : Result Assembled Fault) (fault : Fault) → b ≡ true → (if b then r else Err fault) ≡ r
 if-same true r fault h = refl
 if-same false r fault h = absurd (cc)
 
