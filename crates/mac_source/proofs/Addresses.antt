@@ -4,8 +4,7 @@ use Rattle.std.proofs.Common.{map, Option, Some, None, option_map, refl, arith}
 use Rattle.std.specs.Prelude.{flat_map, replicate, unwrap_or}
 use Rattle.std.specs.List.{last_or}
 use Rattle.std.specs.Map.{lookup}
-use Rattle.std.proofs.lemmas.Bool.{and_parts}
-use Rattle.std.proofs.lemmas.Bool.Decides.{nat_tests}
+use Rattle.std.proofs.lemmas.Bool.{and_parts, eqb-true}
 use Rattle.word36.specs.Words.{right_half}
 use Rattle.ka_isa.specs.Operations.{Name, name_of}
 use Rattle.mac_text.specs.declared.syntax.Line.{Line}
@@ -22,7 +21,7 @@ use Rattle.mac_asm.specs.Assembly.{are_allowed, start_from, start_at}
 use Rattle.mac_source.specs.Sources.{Style, shown}
 use Rattle.mac_source.specs.declared.pieces.Piece.{Piece}
 use Rattle.mac_source.specs.declared.pieces.Piece.TheVariants as pieces
-use Rattle.mac_source.specs.Pieces.{place, count, behind, words_in}
+use Rattle.mac_source.specs.Pieces.{address_of, count, behind, words_in}
 use Rattle.mac_source.proofs.LabelTexts.{read_number}
 use Rattle.mac_source.proofs.PieceLemmas.{IsPiece, ArePieces, heads}
 use Rattle.mac_text.specs.Printed.{number_alone}
@@ -38,7 +37,7 @@ line_at address line = record { address = address; line = line }
 unfoldable pub located_lines : Style → ℕ → ℕ → List Piece → List Located
 located_lines style start here [] = line_at here (end_given style.marked start) ∷ []
 located_lines style start here (p ∷ ps) =
-    loc_if (place p == here) (line_at here (loc_given (place p))) (line_at (place p) (piece_given style p) ∷ located_lines style start (behind p) ps)
+    loc_if (address_of p == here) (line_at here (loc_given (address_of p))) (line_at (address_of p) (piece_given style p) ∷ located_lines style start (behind p) ps)
 
 data_size : (m : Labels) (here : ℕ) (marked : ℕ → Bool) (o : Option Name) (w : ℕ) → size_of m here (data_in marked o w) ≡ 1
 unfolding size_of
@@ -54,18 +53,15 @@ piece_size m here style (pieces.Zeros a n) is =
 piece_size m here style (pieces.Text a text) is = refl
 
 piece_first : (m : Labels) (style : Style) (p : Piece) (rest : List Line) → IsPiece p
-    → located m (place p) (piece_given style p ∷ rest) ≡ line_at (place p) (piece_given style p) ∷ located m (behind p) rest
+    → located m (address_of p) (piece_given style p ∷ rest) ≡ line_at (address_of p) (piece_given style p) ∷ located m (behind p) rest
 unfolding located address_behind
 piece_first m style p rest is =
-    ap (λ n. line_at (place p) (piece_given style p) ∷ located m (place p + n) rest) (piece_size m (place p) style p is)
-
-same_address : (p here : ℕ) → (p == here) ≡ true → p ≡ here
-same_address p here h = grind (arith, nat_tests)
+    ap (λ n. line_at (address_of p) (piece_given style p) ∷ located m (address_of p + n) rest) (piece_size m (address_of p) style p is)
 
 loc_first : (m : Labels) (b : Bool) (p here : ℕ) (rest : List Line) → (p == here) ≡ b → p < 2 ^ 18
     → located m here (loc_if b (loc_given p) rest) ≡ loc_if b (line_at here (loc_given p)) (located m p rest)
 unfolding located address_behind
-loc_first m true p here rest e h = ap (λ n. located m n rest) (sym (same_address p here e))
+loc_first m true p here rest e h = ap (λ n. located m n rest) (sym (eqb-true p here e))
 loc_first m false p here rest e h =
     ap (λ o. line_at here (loc_given p) ∷ located m (unwrap_or o here) rest) (count-number (names_at m here []) p h)
 
@@ -74,10 +70,10 @@ pub located_is : (m : Labels) (style : Style) (start here least : ℕ) (ps : Lis
 unfolding located lines_given located_lines
 located_is m style start here least [] r = refl
 located_is m style start here least (p ∷ ps) r =
-    loc_first m (place p == here) (place p) here (piece_given style p ∷ lines_given style start (behind p) ps) refl r.1
-    ∙ ap (loc_if (place p == here) (line_at here (loc_given (place p))))
+    loc_first m (address_of p == here) (address_of p) here (piece_given style p ∷ lines_given style start (behind p) ps) refl r.1
+    ∙ ap (loc_if (address_of p == here) (line_at here (loc_given (address_of p))))
     (piece_first m style p (lines_given style start (behind p) ps) r.2
-    ∙ ap (λ ls. line_at (place p) (piece_given style p) ∷ ls) (located_is m style start (behind p) (behind p) ps r.3))
+    ∙ ap (λ ls. line_at (address_of p) (piece_given style p) ∷ ls) (located_is m style start (behind p) (behind p) ps r.3))
 
 -- ---- labels
 
@@ -102,9 +98,9 @@ unfolding located_lines pairs
 labels_are style start here [] = refl
 labels_are style start here (p ∷ ps) =
     let later = located_lines style start (behind p) ps in
-    loc_labels (place p == here) here (place p) (line_at (place p) (piece_given style p) ∷ later)
-    ∙ (ap (λ ls. map (λ name. (name, place p)) (symbols_if (style.marked (place p)) (place p)) ++ ls) (labels_are style start (behind p) ps)
-    ∙ own_pair (style.marked (place p)) (place p) (pairs style.marked (heads ps)))
+    loc_labels (address_of p == here) here (address_of p) (line_at (address_of p) (piece_given style p) ∷ later)
+    ∙ (ap (λ ls. map (λ name. (name, address_of p)) (symbols_if (style.marked (address_of p)) (address_of p)) ++ ls) (labels_are style start (behind p) ps)
+    ∙ own_pair (style.marked (address_of p)) (address_of p) (pairs style.marked (heads ps)))
 
 -- ---- no literals
 
@@ -116,7 +112,7 @@ pub no_sizes : (m : Labels) (style : Style) (start here : ℕ) (ps : List Piece)
 unfolding located_lines
 no_sizes m style start here [] = refl
 no_sizes m style start here (p ∷ ps) =
-    loc_sizes m (place p == here) here (place p) (line_at (place p) (piece_given style p) ∷ located_lines style start (behind p) ps)
+    loc_sizes m (address_of p == here) here (address_of p) (line_at (address_of p) (piece_given style p) ∷ located_lines style start (behind p) ps)
     ∙ no_sizes m style start (behind p) ps
 
 -- ---- LOC speaks of no label
@@ -140,7 +136,7 @@ pub settled : (style : Style) (start here : ℕ) (ps : List Piece) (above : List
 unfolding lines_given are_settled
 settled style start here [] above = refl
 settled style start here (p ∷ ps) above =
-    loc_settled (place p == here) above (place p) (piece_given style p ∷ lines_given style start (behind p) ps)
+    loc_settled (address_of p == here) above (address_of p) (piece_given style p ∷ lines_given style start (behind p) ps)
     (λ above.
     let names = above ++ (piece_given style p).labels in
     rw (piece_settled names style p, settled style start (behind p) ps names) refl)
@@ -161,8 +157,8 @@ pub placed_is : (m : Labels) (style : Style) (start here : ℕ) (ps : List Piece
 unfolding located_lines placed
 placed_is m style start here [] = refl
 placed_is m style start here (p ∷ ps) =
-    loc_placed m (place p == here) here (place p) (line_at (place p) (piece_given style p) ∷ located_lines style start (behind p) ps)
-    (ap (λ ls. placed_line m (line_at (place p) (piece_given style p)) ∷ ls) (placed_is m style start (behind p) ps))
+    loc_placed m (address_of p == here) here (address_of p) (line_at (address_of p) (piece_given style p) ∷ located_lines style start (behind p) ps)
+    (ap (λ ls. placed_line m (line_at (address_of p) (piece_given style p)) ∷ ls) (placed_is m style start (behind p) ps))
 
 loc_allowed : (m : Labels) (b : Bool) (here p : ℕ) (rest : List Located) → p < 2 ^ 18 → are_allowed (map (placed_line m) rest) ≡ true
     → are_allowed (map (placed_line m) (loc_if b (line_at here (loc_given p)) rest)) ≡ true
@@ -174,7 +170,7 @@ pub allowed : (m : Labels) (style : Style) (start here least : ℕ) (ps : List P
 unfolding located_lines
 allowed m style start here least [] r = refl
 allowed m style start here least (p ∷ ps) r =
-    loc_allowed m (place p == here) here (place p) (line_at (place p) (piece_given style p) ∷ located_lines style start (behind p) ps) r.1
+    loc_allowed m (address_of p == here) here (address_of p) (line_at (address_of p) (piece_given style p) ∷ located_lines style start (behind p) ps) r.1
     (allowed m style start (behind p) (behind p) ps r.3)
 
 -- ---- words
@@ -213,7 +209,7 @@ unfolding words_from all_words_of words_of
 asciz_words m a text = ap (option_map (at_addresses a)) (words_some text 0 (text_count text))
 
 piece_words : (m : Labels) (style : Style) (p : Piece) → IsPiece p → Knows m style.marked
-    → statement_words (names_at m (place p) []) (piece_given style p).statement ≡ Some (words_in p)
+    → statement_words (names_at m (address_of p) []) (piece_given style p).statement ≡ Some (words_in p)
 unfolding statement_words
 piece_words m style (pieces.Word a w) is knows = word_words m style a w is knows
 piece_words m style (pieces.Zeros a n) is knows =
@@ -239,7 +235,7 @@ statements_give m style start here least [] r knows =
     ap (λ o. o >>= λ first. Some (first ++ [])) (end_words m here style start)
 statements_give m style start here least (p ∷ ps) r knows =
     let later = located_lines style start (behind p) ps in
-    loc_words m (place p == here) here (place p) (line_at (place p) (piece_given style p) ∷ later) (flat_map words_in (p ∷ ps))
+    loc_words m (address_of p == here) here (address_of p) (line_at (address_of p) (piece_given style p) ∷ later) (flat_map words_in (p ∷ ps))
     (ap (λ o. o >>= λ first. all_statement_words (map (placed_line m) later) >>= λ more. Some (first ++ more)) (piece_words m style p r.2 knows)
     ∙ ap (λ o. o >>= λ more. Some (words_in p ++ more)) (statements_give m style start (behind p) (behind p) ps r.3 knows))
 
@@ -255,7 +251,7 @@ literals_give : (m : Labels) (style : Style) (start here : ℕ) (ps : List Piece
 unfolding located_lines all_literal_words literal_words
 literals_give m style start here [] = refl
 literals_give m style start here (p ∷ ps) =
-    loc_no_literals m (place p == here) here (place p) (line_at (place p) (piece_given style p) ∷ located_lines style start (behind p) ps)
+    loc_no_literals m (address_of p == here) here (address_of p) (line_at (address_of p) (piece_given style p) ∷ located_lines style start (behind p) ps)
     (ap (λ o. o >>= λ more. Some more) (literals_give m style start (behind p) ps))
 
 nothing_more : (xs : List (ℕ × ℕ)) → xs ++ [] ≡ xs
@@ -285,8 +281,8 @@ unfolding located_lines
 last_is m style start here [] o P h = h here
 last_is m style start here (p ∷ ps) o P h =
     let later = located_lines style start (behind p) ps in
-    subst P (sym (loc_last m (place p == here) here (place p) (line_at (place p) (piece_given style p)) later o))
-    (last_is m style start (behind p) ps (Some (placed_line m (line_at (place p) (piece_given style p)))) P h)
+    subst P (sym (loc_last m (address_of p == here) here (address_of p) (line_at (address_of p) (piece_given style p)) later o))
+    (last_is m style start (behind p) ps (Some (placed_line m (line_at (address_of p) (piece_given style p)))) P h)
 
 pub starts : (m : Labels) (style : Style) (start here : ℕ) (ps : List Piece) → start < 2 ^ 18 → Knows m style.marked
     → start_at (map (placed_line m) (located_lines style start here ps)) ≡ Some start

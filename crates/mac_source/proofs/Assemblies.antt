@@ -4,7 +4,7 @@ use Rattle.std.proofs.Common.{map, filter_map, Some, None, option_map, Ok, refl,
 use Rattle.std.specs.Prelude.{flat_map}
 use Rattle.std.specs.List.{list_any, range_with_len, cons_option}
 use Rattle.std.specs.Map.{lookup, keys_of, values_of}
-use Rattle.std.proofs.lemmas.Bool.{and_parts, ne_eqb}
+use Rattle.std.proofs.lemmas.Bool.{and_parts, ne_eqb, eqb-true, lt-ltb}
 use Rattle.std.proofs.lemmas.Bool.Decides.{nat_tests}
 use Rattle.std.proofs.lemmas.Grind.{common_steps}
 use Rattle.std.proofs.Math.Nat.{eq-or-lt_of_le}
@@ -23,19 +23,13 @@ use Rattle.mac_source.proofs.Given.{symbol_at, lines_given}
 use Rattle.mac_source.proofs.WholeSources.{source_read}
 use Rattle.mac_source.proofs.Addresses.{located_lines, located_is, pair_if, pairs, labels_are, no_sizes, settled, placed_line, placed_is, allowed, Knows, words_given, starts}
 
-unequal : (a b : ℕ) → a ≢ b → nat_eq a b ≡ false
-unequal a b h = ne_eqb a b h
-
 equal : (a : ℕ) → nat_eq a a ≡ true
 equal a = grind (arith, common_steps)
-
-below_test : (n m : ℕ) → n < m → nat_lt n m ≡ true
-below_test n m h = grind (arith, common_steps)
 
 -- ---- labels
 
 other_symbol : (p q : ℕ) → p < 2 ^ 18 → q < 2 ^ 18 → p ≢ q → nat_eq (symbol_at p) (symbol_at q) ≡ false
-other_symbol p q h k ne = unequal (symbol_at p) (symbol_at q) (λ e. ne (label_tells p q h k e))
+other_symbol p q h k ne = ne_eqb (symbol_at p) (symbol_at q) (λ e. ne (label_tells p q h k e))
 
 fresh_if : (b : Bool) (q p : ℕ) (rest : Labels) → nat_eq (symbol_at q) (symbol_at p) ≡ false → list_any (nat_eq (symbol_at q)) (keys_of rest) ≡ false
     → list_any (nat_eq (symbol_at q)) (keys_of (pair_if b p rest)) ≡ false
@@ -67,7 +61,7 @@ labels_apart marked least (x ∷ xs) r =
     apart_if (marked x.0) x.0 (pairs marked xs) (fresh marked x.0 (x.0 + 1) xs next r.1 r.3) (labels_apart marked (x.0 + 1) xs r.3)
 
 below_if : (b : Bool) (p : ℕ) (rest : Labels) → p < 2 ^ 18 → are_below (values_of rest) ≡ true → are_below (values_of (pair_if b p rest)) ≡ true
-below_if true p rest h k = rw (below_test p (2 ^ 18) h, k) refl
+below_if true p rest h k = rw (lt-ltb p (2 ^ 18) h, k) refl
 below_if false p rest h k = k
 
 labels_below : (marked : ℕ → Bool) (least : ℕ) (xs : List (ℕ × ℕ)) → AreWords least xs → are_below (values_of (pairs marked xs)) ≡ true
@@ -84,9 +78,6 @@ known_later : (b : Bool) (q p : ℕ) (rest : Labels) → nat_eq (symbol_at q) (s
 known_later true q p rest h k = rw h k
 known_later false q p rest h k = k
 
-same_address : (p q : ℕ) → (p == q) ≡ true → p ≡ q
-same_address p q h = grind (arith, nat_tests)
-
 other_address : (p q : ℕ) → (p == q) ≡ false → q ≢ p
 other_address p q h e = grind (arith, nat_tests)
 
@@ -95,7 +86,7 @@ known_step : (marked : ℕ → Bool) (q : ℕ) (x : ℕ × ℕ) (xs : List (ℕ 
     → (has_word xs q ≡ true → lookup (nat_eq (symbol_at q)) (pairs marked xs) ≡ Some q)
     → lookup (nat_eq (symbol_at q)) (pair_if (marked x.0) x.0 (pairs marked xs)) ≡ Some q
 known_step marked q x xs true e h k m there later =
-    let is : x.0 ≡ q = same_address x.0 q e in
+    let is : x.0 ≡ q = eqb-true x.0 q e in
     subst (λ (r : ℕ). lookup (nat_eq (symbol_at r)) (pair_if (marked x.0) x.0 (pairs marked xs)) ≡ Some r) is
     (known_here (marked x.0) x.0 (pairs marked xs) (ap marked is ∙ m))
 known_step marked q x xs false e h k m there later =
@@ -112,14 +103,14 @@ known marked q least (x ∷ xs) r h m there =
 
 words_below : (least : ℕ) (xs : List (ℕ × ℕ)) → AreWords least xs → are_below (keys_of xs) ≡ true
 words_below least [] r = refl
-words_below least (x ∷ xs) r = rw (below_test x.0 (2 ^ 18) r.1, words_below (x.0 + 1) xs r.3) refl
+words_below least (x ∷ xs) r = rw (lt-ltb x.0 (2 ^ 18) r.1, words_below (x.0 + 1) xs r.3) refl
 
 no_word : (q least : ℕ) (xs : List (ℕ × ℕ)) → q < least → AreWords least xs → list_any (nat_eq q) (keys_of xs) ≡ false
 no_word q least [] h r = refl
 no_word q least (x ∷ xs) h r =
     let low : least ≤ x.0 = r.0 in
     let next : q < x.0 + 1 = omega arith in
-    rw (unequal q x.0 (λ e. omega arith), no_word q (x.0 + 1) xs next r.3) refl
+    rw (ne_eqb q x.0 (λ e. omega arith), no_word q (x.0 + 1) xs next r.3) refl
 
 words_apart : (least : ℕ) (xs : List (ℕ × ℕ)) → AreWords least xs → are_apart (keys_of xs) ≡ true
 unfolding are_apart
@@ -137,14 +128,14 @@ none_found q least [] h r = refl
 none_found q least (x ∷ xs) h r =
     let low : least ≤ x.0 = r.0 in
     let next : q < x.0 + 1 = omega arith in
-    rw (unequal q x.0 (λ e. omega arith)) (none_found q (x.0 + 1) xs next r.3)
+    rw (ne_eqb q x.0 (λ e. omega arith)) (none_found q (x.0 + 1) xs next r.3)
 
 -- a word before the range changes nothing
 past : (x : ℕ × ℕ) (xs : List (ℕ × ℕ)) (a n : ℕ) → x.0 < a → found (x ∷ xs) a n ≡ found xs a n
 past x xs a zero h = refl
 past x xs a (suc n) h =
     let next : x.0 < a + 1 = omega arith in
-    ap (λ b. cons_option (option_map (λ word. (a, word)) (if b then Some x.1 else lookup (nat_eq a) xs)) (found (x ∷ xs) (a + 1) n)) (unequal a x.0 (λ e. omega arith))
+    ap (λ b. cons_option (option_map (λ word. (a, word)) (if b then Some x.1 else lookup (nat_eq a) xs)) (found (x ∷ xs) (a + 1) n)) (ne_eqb a x.0 (λ e. omega arith))
     ∙ ap (λ l. cons_option (word_at xs a) l) (past x xs (a + 1) n next)
 
 found_here : (x : ℕ × ℕ) (xs : List (ℕ × ℕ)) (a n : ℕ) → x.0 ≡ a → found xs (a + 1) n ≡ xs → found (x ∷ xs) a (suc n) ≡ x ∷ xs

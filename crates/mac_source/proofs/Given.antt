@@ -17,7 +17,7 @@ use Rattle.mac_text.specs.declared.syntax.Statement.TheVariants as statements
 use Rattle.mac_text.specs.declared.syntax.Line.{Line}
 use Rattle.mac_source.specs.declared.pieces.Piece.{Piece}
 use Rattle.mac_source.specs.declared.pieces.Piece.TheVariants as pieces
-use Rattle.mac_source.specs.Pieces.{place, behind}
+use Rattle.mac_source.specs.Pieces.{address_of, behind}
 use Rattle.mac_source.specs.Sources.{Style, shown, label_text}
 use Rattle.mac_source.proofs.LabelTexts.{read_number}
 
@@ -63,7 +63,7 @@ piece_data style (pieces.Text a text) = data_of.Text Asciz text
 
 abbrev pub piece_given : Style → Piece → Line
 piece_given style p =
-    record { labels = symbols_if (style.marked (place p)) (place p); statement = Some (statements.Data (piece_data style p)); literals = [] }
+    record { labels = symbols_if (style.marked (address_of p)) (address_of p); statement = Some (statements.Data (piece_data style p)); literals = [] }
 
 abbrev pub loc_given : ℕ → Line
 loc_given p = record { labels = []; statement = Some (statements.Loc (number_alone (read_number p))); literals = [] }
@@ -78,4 +78,4 @@ loc_if false x rest = x ∷ rest
 -- the lines of pieces, where the address reached is `here`
 unfoldable pub lines_given : Style → ℕ → ℕ → List Piece → List Line
 lines_given style start here [] = end_given style.marked start ∷ []
-lines_given style start here (p ∷ ps) = loc_if (place p == here) (loc_given (place p)) (piece_given style p ∷ lines_given style start (behind p) ps)
+lines_given style start here (p ∷ ps) = loc_if (address_of p == here) (loc_given (address_of p)) (piece_given style p ∷ lines_given style start (behind p) ps)

@@ -1,8 +1,8 @@
 -- Labels and numbers as they are written: their characters, and that a label tells its address.
 use Rattle.std.proofs.Common.{◌≡◌, ℕ, zero, suc, ◌+◌, ◌-◌, ◌*◌, ◌/◌, ◌%◌, ◌^◌, ◌<◌, ◌≤◌, List, [], ◌∷◌}
-use Rattle.std.proofs.Common.{true, false, length, length-append, take, map, refl, ap, ◌∙◌, sym, arith}
+use Rattle.std.proofs.Common.{Bool, true, false, length, length-append, take, map, refl, ap, ◌∙◌, sym, arith}
 use Rattle.std.specs.List.{list_all}
-use Rattle.std.proofs.lemmas.Bool.{and_parts}
+use Rattle.std.proofs.lemmas.Bool.{and_parts, and_from}
 use Rattle.std.proofs.lemmas.Bool.Decides.{nat_tests}
 use Rattle.std.proofs.lemmas.List.Folds.{list_all-append}
 use Rattle.std.proofs.lemmas.List.Sums.{fold-append}
@@ -17,6 +17,7 @@ use Rattle.mac_text.specs.Characters.{is_digit, is_name_character, upper_case}
 use Rattle.mac_text.specs.Names.{is_name, folded, symbol_of}
 use Rattle.mac_text.specs.Numbers.{is_digit_of}
 use Rattle.mac_source.specs.Sources.{label_text}
+use Rattle.mac_text.proofs.NumberTexts.{digits_are_name_characters}
 
 -- ---- numbers
 
@@ -60,23 +61,18 @@ size_value n h = octal_value 22 n (omega arith) (omega (arith, h))
 
 -- ---- labels
 
-digit_is_name_character : (d : ℕ) → is_digit_of 8 d ≡ true → is_name_character d ≡ true
-digit_is_name_character d h = grind (arith, nat_tests)
-
-digits_are_name_characters : (ds : List ℕ) → list_all (is_digit_of 8) ds ≡ true → list_all is_name_character ds ≡ true
-digits_are_name_characters [] h = refl
-digits_are_name_characters (d ∷ ds) h =
-    let p = and_parts (is_digit_of 8 d) (list_all (is_digit_of 8) ds) h in
-    rw (digit_is_name_character d p.0, digits_are_name_characters ds p.1) refl
+-- what holds of each character that passes a test holds of a text of such characters
+pub all_so : (p q : ℕ → Bool) → ((c : ℕ) → p c ≡ true → q c ≡ true) → (cs : List ℕ) → list_all p cs ≡ true → list_all q cs ≡ true
+all_so p q each [] h = refl
+all_so p q each (c ∷ cs) h =
+    let first = and_parts (p c) (list_all p cs) h in
+    and_from (q c) (list_all q cs) (each c first.0) (all_so p q each cs first.1)
 
 digit_has_code : (d : ℕ) → is_digit_of 8 d ≡ true → has_code d ≡ true
 digit_has_code d h = grind (arith, nat_tests)
 
 digits_have_codes : (ds : List ℕ) → list_all (is_digit_of 8) ds ≡ true → list_all has_code ds ≡ true
-digits_have_codes [] h = refl
-digits_have_codes (d ∷ ds) h =
-    let p = and_parts (is_digit_of 8 d) (list_all (is_digit_of 8) ds) h in
-    rw (digit_has_code d p.0, digits_have_codes ds p.1) refl
+digits_have_codes = all_so (is_digit_of 8) has_code digit_has_code
 
 digit_stays : (d : ℕ) → is_digit_of 8 d ≡ true → upper_case d ≡ d
 digit_stays d h = grind (arith, nat_tests)

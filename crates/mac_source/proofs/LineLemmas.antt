@@ -18,7 +18,7 @@ use Rattle.mac_source.specs.Sources.{named_text, loc_text, piece_text, piece_lin
 use Rattle.mac_source.specs.declared.shown.Shown.{Shown}
 use Rattle.mac_source.specs.declared.pieces.Piece.{Piece}
 use Rattle.mac_source.specs.declared.pieces.Piece.TheVariants as pieces
-use Rattle.mac_source.specs.Pieces.{first, place, count, behind, join_if, with_word, pieces_of, ArePlaced}
+use Rattle.mac_source.specs.Pieces.{first, address_of, count, behind, join_if, with_word, pieces_of, ArePlaced}
 use Rattle.mac_source.proofs.PieceLemmas.{are_placed}
 use Rattle.mac_source.proofs.Assemblies.{source_comes_to}
 
@@ -48,19 +48,19 @@ piece_same f g how (pieces.Word a w) same =
 piece_same f g how (pieces.Zeros a n) same = refl
 piece_same f g how (pieces.Text a text) same = refl
 
-line_same : (f g : ℕ → Bool) (how : Shown) (p : Piece) → place p < 2 ^ 18 → SameMarks f g
+line_same : (f g : ℕ → Bool) (how : Shown) (p : Piece) → address_of p < 2 ^ 18 → SameMarks f g
     → piece_line (style_with f how) p ≡ piece_line (style_with g how) p
 line_same f g how p h same =
     let tail = behind_text (comment_if how.comments (first p)) ++ 10 ∷ [] in
-    ap (λ b. mark_text b (place p) ++ (32 ∷ (piece_text (style_with f how) p ++ tail))) (same (place p) h)
-    ∙ ap (λ t. mark_text (g (place p)) (place p) ++ (32 ∷ (t ++ tail))) (piece_same f g how p same)
+    ap (λ b. mark_text b (address_of p) ++ (32 ∷ (piece_text (style_with f how) p ++ tail))) (same (address_of p) h)
+    ∙ ap (λ t. mark_text (g (address_of p)) (address_of p) ++ (32 ∷ (t ++ tail))) (piece_same f g how p same)
 
 lines_same : (f g : ℕ → Bool) (how : Shown) (start here : ℕ) (ps : List Piece) → SameMarks f g → start < 2 ^ 18 → ArePlaced ps
     → lines_text (style_with f how) start here ps ≡ lines_text (style_with g how) start here ps
 unfolding lines_text
 lines_same f g how start here [] same h r = ap (λ t. codes " END " ++ (t ++ 10 ∷ [])) (address_same f g start (same start h))
 lines_same f g how start here (p ∷ ps) same h r =
-    let loc = if place p == here then [] else loc_text (place p) in
+    let loc = if address_of p == here then [] else loc_text (address_of p) in
     ap (λ l. loc ++ (l ++ lines_text (style_with f how) start (behind p) ps)) (line_same f g how p r.0.0 same)
     ∙ ap (λ l. loc ++ (piece_line (style_with g how) p ++ l)) (lines_same f g how start (behind p) ps same h r.1)
 
@@ -68,7 +68,7 @@ with_same : (f g : ℕ → Bool) (blocks texts : Bool) (x : ℕ × ℕ) (ps : Li
     → with_word blocks texts f x ps ≡ with_word blocks texts g x ps
 with_same f g blocks texts x [] same h = refl
 with_same f g blocks texts x (p ∷ ps) same h =
-    ap (λ b. join_if (place p == x.0 + 1 && not b) blocks texts x p ps) (same (place p) h.0.0)
+    ap (λ b. join_if (address_of p == x.0 + 1 && not b) blocks texts x p ps) (same (address_of p) h.0.0)
 
 pieces_same : (f g : ℕ → Bool) (blocks texts : Bool) (least : ℕ) (xs : List (ℕ × ℕ)) → SameMarks f g → Rises least xs
     → pieces_of blocks texts f xs ≡ pieces_of blocks texts g xs
@@ -95,41 +95,41 @@ lines_end style start here (p ∷ ps) zero h = absurd (omega arith)
 lines_end style start here (p ∷ ps) (suc i) h = lines_end style start here ps i (omega arith)
 
 lines_first : (style : Style) (start here : ℕ) (p : Piece) (ps : List Piece)
-    → lines_text style start here (p ∷ ps) ≡ (if place p == here then [] else loc_text (place p)) ++ (piece_line style p ++ lines_text style start (behind p) ps)
+    → lines_text style start here (p ∷ ps) ≡ (if address_of p == here then [] else loc_text (address_of p)) ++ (piece_line style p ++ lines_text style start (behind p) ps)
 unfolding lines_text
 lines_first style start here p ps = refl
 
 pub lines_next : (style : Style) (start here : ℕ) (ps : List Piece) (i : ℕ) (d : Piece) → i < length ps
     → lines_text style start here (drop i ps)
-    ≡ (if place (get_or ps i d) == here then [] else loc_text (place (get_or ps i d))) ++ (piece_line style (get_or ps i d) ++ lines_text style start (behind (get_or ps i d)) (drop (i + 1) ps))
+    ≡ (if address_of (get_or ps i d) == here then [] else loc_text (address_of (get_or ps i d))) ++ (piece_line style (get_or ps i d) ++ lines_text style start (behind (get_or ps i d)) (drop (i + 1) ps))
 lines_next style start here ps i d h =
     let more : i + 1 ≡ suc i = omega arith in
     ap (lines_text style start here) (drop-cons ps i d h)
     ∙ (lines_first style start here (get_or ps i d) (drop (suc i) ps)
-    ∙ ap (λ k. (if place (get_or ps i d) == here then [] else loc_text (place (get_or ps i d))) ++ (piece_line style (get_or ps i d) ++ lines_text style start (behind (get_or ps i d)) (drop k ps))) (sym more))
+    ∙ ap (λ k. (if address_of (get_or ps i d) == here then [] else loc_text (address_of (get_or ps i d))) ++ (piece_line style (get_or ps i d) ++ lines_text style start (behind (get_or ps i d)) (drop k ps))) (sym more))
 
 pub lines_step : (style : Style) (start here : ℕ) (ps : List Piece) (i : ℕ) (p : Piece) (out mid new all : List ℕ) → p ≡ get_or ps i p → i < length ps
-    → mid ≡ out ++ (if place p == here then [] else loc_text (place p)) → new ≡ mid ++ piece_line style p
+    → mid ≡ out ++ (if address_of p == here then [] else loc_text (address_of p)) → new ≡ mid ++ piece_line style p
     → out ++ lines_text style start here (drop i ps) ≡ all
     → new ++ lines_text style start (behind p) (drop (i + 1) ps) ≡ all
 lines_step style start here ps i p out mid new all e h a b inv =
-    let loc = if place p == here then [] else loc_text (place p) in
+    let loc = if address_of p == here then [] else loc_text (address_of p) in
     let later = lines_text style start (behind p) (drop (i + 1) ps) in
     let next : lines_text style start here (drop i ps) ≡ loc ++ (piece_line style p ++ later) =
     lines_next style start here ps i p h
-    ∙ ap (λ (q : Piece). (if place q == here then [] else loc_text (place q)) ++ (piece_line style q ++ lines_text style start (behind q) (drop (i + 1) ps))) (sym e) in
+    ∙ ap (λ (q : Piece). (if address_of q == here then [] else loc_text (address_of q)) ++ (piece_line style q ++ lines_text style start (behind q) (drop (i + 1) ps))) (sym e) in
     ap (λ l. l ++ later) (b ∙ ap (λ l. l ++ piece_line style p) a)
     ∙ (append_assoc (out ++ loc) (piece_line style p) later
     ∙ (append_assoc out loc (piece_line style p ++ later)
     ∙ (ap (λ l. out ++ l) (sym next) ∙ inv)))
 
 pub lines_go : (style : Style) (start here : ℕ) (ps : List Piece) (i : ℕ) (p : Piece) (address number : ℕ) (out mid new all : List ℕ)
-    → address ≡ place p → number ≡ count p → p ≡ get_or ps i p → i < length ps
+    → address ≡ address_of p → number ≡ count p → p ≡ get_or ps i p → i < length ps
     → mid ≡ out ++ (if address == here then [] else loc_text address) → new ≡ mid ++ piece_line style p
     → out ++ lines_text style start here (drop i ps) ≡ all
     → new ++ lines_text style start (address + number) (drop (i + 1) ps) ≡ all
 lines_go style start here ps i p address number out mid new all at many e h a b inv =
-    let ends : address + number ≡ behind p = ap (λ n. n + number) at ∙ ap (λ n. place p + n) many in
+    let ends : address + number ≡ behind p = ap (λ n. n + number) at ∙ ap (λ n. address_of p + n) many in
     ap (λ n. new ++ lines_text style start n (drop (i + 1) ps)) ends
     ∙ lines_step style start here ps i p out mid new all e h (a ∙ ap (λ n. out ++ (if n == here then [] else loc_text n)) at) b inv
 

@@ -8,6 +8,7 @@ use Rattle.std.proofs.lemmas.List.{take_all}
 use Rattle.std.proofs.lemmas.List.Folds.{list_any_more}
 use Rattle.std.proofs.lemmas.Bool.Decides.{nat_tests}
 use Rattle.std.proofs.Math.ListN.{set}
+use Rattle.std.proofs.lemmas.Bool.{eqb-true}
 use Rattle.word36.specs.Words.{right_half}
 use Rattle.mac_asm.specs.Assembly.{Assembled}
 use Rattle.image_files.specs.Images.{Rises}
@@ -59,16 +60,13 @@ or_assoc : (a b c : Bool) → ((a || b) || c) ≡ (a || (b || c))
 or_assoc true b c = refl
 or_assoc false b c = refl
 
-equal_from : (p q : ℕ) → (q == p) ≡ true → q ≡ p
-equal_from p q h = grind (arith, nat_tests)
-
 unequal_from : (p q : ℕ) → (q == p) ≡ false → p ≢ q
 unequal_from p q h e = grind (arith, nat_tests)
 
 more_at : (ms : List Bool) (h there o : Bool) (p q : ℕ) (b : Bool) → (q == p) ≡ b → q < length ms → marked_by ms p ≡ (there && o) → (q ≡ p → h ≡ there)
     → marked_by (set ms q h) p ≡ (there && (o || b))
 more_at ms h there o p q true e lt inv same =
-    let at : q ≡ p = equal_from p q e in
+    let at : q ≡ p = eqb-true q p e in
     ap (marked_by (set ms q h)) (sym at)
     ∙ (marked_same ms q h lt ∙ (same at ∙ (sym (and_true there) ∙ ap (λ z. there && z) (sym (or_true o)))))
 more_at ms h there o p q false e lt inv same =

@@ -2,7 +2,6 @@
 use Rattle.std.proofs.Common.{◌≡◌, ◌∙◌, ℕ, ◌+◌, ◌/◌, ◌%◌, ◌^◌, ◌≤◌, Bool, true, false, List, [], ◌∷◌, ◌++◌, refl, arith}
 use Rattle.std.specs.Prelude.{codes}
 use Rattle.std.specs.List.{list_all}
-use Rattle.std.proofs.lemmas.Bool.{and_parts}
 use Rattle.std.proofs.lemmas.Bool.Decides.{nat_tests}
 use Rattle.std.proofs.lemmas.Grind.{common_steps}
 use Rattle.std.proofs.lemmas.List.Folds.{list_all-append}
@@ -12,7 +11,7 @@ use Rattle.mac_text.specs.Numbers.{is_digit_of}
 use Rattle.mac_source.specs.Notes.{is_printing, sixbit_text, ascii_text, quoted_if, numbers_text, characters_text, note_of}
 use Rattle.mac_source.specs.declared.shown.Shown.{Shown}
 use Rattle.mac_source.specs.Sources.{ArePrinting, IsPrinting, comment_if, style_with}
-use Rattle.mac_source.proofs.LabelTexts.{fixed_digits}
+use Rattle.mac_source.proofs.LabelTexts.{all_so, fixed_digits}
 
 printing_between : (c : ℕ) → 32 ≤ c → c ≤ 126 → is_printing c ≡ true
 printing_between c h k = grind (arith, common_steps)
@@ -27,10 +26,7 @@ digit_printing : (d : ℕ) → is_digit_of 8 d ≡ true → is_printing d ≡ tr
 digit_printing d h = grind (arith, nat_tests)
 
 digits_printing : (ds : List ℕ) → list_all (is_digit_of 8) ds ≡ true → list_all is_printing ds ≡ true
-digits_printing [] h = refl
-digits_printing (d ∷ ds) h =
-    let p = and_parts (is_digit_of 8 d) (list_all (is_digit_of 8) ds) h in
-    behind d ds (digit_printing d p.0) (digits_printing ds p.1)
+digits_printing = all_so (is_digit_of 8) is_printing digit_printing
 
 octal_printing : (k n : ℕ) → list_all is_printing (octal k n) ≡ true
 octal_printing k n = digits_printing (octal k n) (fixed_digits k n)

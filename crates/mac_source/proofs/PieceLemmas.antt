@@ -3,7 +3,7 @@ use Rattle.std.proofs.Common.{◌≡◌, ◌∙◌, sym, ap, subst, ℕ, zero, s
 use Rattle.std.proofs.Common.{lit<, length, map, refl, arith, if◌then◌else◌}
 use Rattle.std.specs.Prelude.{flat_map, replicate, slice_index}
 use Rattle.std.specs.List.{list_all}
-use Rattle.std.proofs.lemmas.Bool.{and_parts}
+use Rattle.std.proofs.lemmas.Bool.{and_parts, eqb-true, ltb-true}
 use Rattle.std.proofs.lemmas.Bool.Decides.{nat_tests}
 use Rattle.std.proofs.lemmas.List.Folds.{list_all-append}
 use Rattle.mac_asm.specs.Assembly.{at_addresses}
@@ -13,7 +13,7 @@ use Rattle.mac_source.specs.declared.pieces.Piece.{Piece}
 use Rattle.mac_source.specs.declared.pieces.Piece.TheVariants as pieces
 use Rattle.mac_source.specs.Notes.{ascii_text}
 use Rattle.mac_source.specs.Pieces.{is_text_character, before_zero, text_in, reads_as_text, is_full, is_end, text_words_from, text_count, text_words}
-use Rattle.mac_source.specs.Pieces.{first, place, count, behind, words_in, is_zeros, is_next, alone, joins_zeros, ends_text, joins_text, text_of}
+use Rattle.mac_source.specs.Pieces.{first, address_of, count, behind, words_in, is_zeros, is_next, alone, joins_zeros, ends_text, joins_text, text_of}
 use Rattle.mac_source.specs.Pieces.{zeros_at, rest_before, text_if, zeros_if, join_if, with_word, pieces_of, ArePlaced}
 use Rattle.mac_source.specs.Sources.{has_word}
 use Rattle.mac_source.proofs.PlacedWords.{AreWords}
@@ -26,26 +26,20 @@ IsPiece (pieces.Text a text) = (list_all is_text_character text ≡ true) × (a 
 
 abbrev pub ArePieces : ℕ → List Piece → Type 0
 ArePieces least [] = Unit {0}
-ArePieces least (p ∷ ps) = (least ≤ place p) × (place p < 2 ^ 18) × IsPiece p × ArePieces (behind p) ps
+ArePieces least (p ∷ ps) = (least ≤ address_of p) × (address_of p < 2 ^ 18) × IsPiece p × ArePieces (behind p) ps
 
 -- ---- tests
 
-same_number : (n m : ℕ) → (n == m) ≡ true → n ≡ m
-same_number n m h = grind (arith, nat_tests)
-
-below_number : (n m : ℕ) → nat_lt n m ≡ true → n < m
-below_number n m h = grind (arith, nat_tests)
-
-next_at : (marked : ℕ → Bool) (x : ℕ × ℕ) (p : Piece) → is_next marked x p ≡ true → (place p ≡ x.0 + 1) × (not (marked (place p)) ≡ true)
+next_at : (marked : ℕ → Bool) (x : ℕ × ℕ) (p : Piece) → is_next marked x p ≡ true → (address_of p ≡ x.0 + 1) × (not (marked (address_of p)) ≡ true)
 next_at marked x p h =
-    let both = and_parts (place p == x.0 + 1) (not (marked (place p))) h in
-    (same_number (place p) (x.0 + 1) both.0, both.1)
+    let both = and_parts (address_of p == x.0 + 1) (not (marked (address_of p))) h in
+    (eqb-true (address_of p) (x.0 + 1) both.0, both.1)
 
 zeros_parts : (blocks : Bool) (x : ℕ × ℕ) (p : Piece) → joins_zeros blocks x p ≡ true → (x.1 ≡ 0) × (is_zeros p ≡ true)
 zeros_parts blocks x p h =
     let one = and_parts blocks (x.1 == 0 && is_zeros p) h in
     let two = and_parts (x.1 == 0) (is_zeros p) one.1 in
-    (same_number x.1 0 two.0, two.1)
+    (eqb-true x.1 0 two.0, two.1)
 
 text_parts : (texts : Bool) (x : ℕ × ℕ) (p : Piece) → joins_text texts x p ≡ true → (is_full x.1 ≡ true) × (ends_text p ≡ true)
 text_parts texts x p h =
@@ -62,7 +56,7 @@ record Reads (w : ℕ) : Type 0 where
 reads : (w : ℕ) → reads_as_text w ≡ true → Reads w
 reads w h =
     let both = and_parts (list_all is_text_character (text_in w)) (ascii_word (text_in w) 0 == w) h in
-    record { characters = both.0; back = same_number (ascii_word (text_in w) 0) w both.1 }
+    record { characters = both.0; back = eqb-true (ascii_word (text_in w) 0) w both.1 }
 
 record Ends (w : ℕ) : Type 0 where
   reads : Reads w
@@ -71,7 +65,7 @@ record Ends (w : ℕ) : Type 0 where
 ends : (w : ℕ) → is_end w ≡ true → Ends w
 ends w h =
     let both = and_parts (reads_as_text w) (nat_lt (length (text_in w)) 5) h in
-    record { reads = reads w both.0; short = below_number (length (text_in w)) 5 both.1 }
+    record { reads = reads w both.0; short = ltb-true (length (text_in w)) 5 both.1 }
 
 not_shorter : (b : Bool) (c : ℕ) (cs : List ℕ) (n : ℕ) → (c == 0) ≡ b → length (if b then [] else c ∷ before_zero cs) ≡ suc n
     → (length (before_zero cs) ≡ n) × ((if b then [] else c ∷ before_zero cs) ≡ c ∷ before_zero cs)
@@ -93,7 +87,7 @@ fills : (w : ℕ) → is_full w ≡ true → Fills w
 fills w h =
     let both = and_parts (reads_as_text w) (length (text_in w) == 5) h in
     let r = reads w both.0 in
-    let five : length (text_in w) ≡ length (ascii_text w) = same_number (length (text_in w)) 5 both.1 in
+    let five : length (text_in w) ≡ length (ascii_text w) = eqb-true (length (text_in w)) 5 both.1 in
     let all : text_in w ≡ ascii_text w = whole_text (ascii_text w) five in
     record { characters = ap (list_all is_text_character) (sym all) ∙ r.characters; back = ap (λ t. ascii_word t 0) (sym all) ∙ r.back }
 
@@ -156,16 +150,16 @@ full_count w text = omega arith
 
 -- a piece of a word alone
 record IsAlone (x : ℕ × ℕ) (s : Piece) : Type 0 where
-  at : place s ≡ x.0
+  at : address_of s ≡ x.0
   one : count s ≡ 1
   words : words_in s ≡ x ∷ []
   is : x.0 < 2 ^ 18 → x.1 < 2 ^ 36 → IsPiece s
 
 -- a piece of a word and those of the piece right behind it
 record IsJoined (marked : ℕ → Bool) (x : ℕ × ℕ) (p n : Piece) : Type 0 where
-  next : place p ≡ x.0 + 1
-  bare : not (marked (place p)) ≡ true
-  at : place n ≡ x.0
+  next : address_of p ≡ x.0 + 1
+  bare : not (marked (address_of p)) ≡ true
+  at : address_of n ≡ x.0
   size : count n ≡ count p + 1
   words : words_in n ≡ x ∷ words_in p
   is : IsPiece p → behind p ≤ 2 ^ 18 → IsPiece n
@@ -197,8 +191,8 @@ zero_more a n =
     let e : n + 1 ≡ suc n = omega arith in
     ap (λ k. at_addresses a (replicate k 0)) e ∙ one_more a n
 
-zeros_words : (p : Piece) → is_zeros p ≡ true → words_in p ≡ at_addresses (place p) (replicate (count p) 0)
-zeros_words (pieces.Word a w) h = ap (λ v. (a, v) ∷ []) (same_number w 0 h)
+zeros_words : (p : Piece) → is_zeros p ≡ true → words_in p ≡ at_addresses (address_of p) (replicate (count p) 0)
+zeros_words (pieces.Word a w) h = ap (λ v. (a, v) ∷ []) (eqb-true w 0 h)
 zeros_words (pieces.Zeros a n) h = refl
 zeros_words (pieces.Text a text) h = absurd (cc)
 
@@ -206,7 +200,7 @@ zeros_joined : (marked : ℕ → Bool) (x : ℕ × ℕ) (p : Piece) → is_next 
     → IsJoined marked x p (pieces.Zeros x.0 (count p + 1))
 zeros_joined marked x p h zero_word zeros =
     let n = next_at marked x p h in
-    let next : place p ≡ x.0 + 1 = n.0 in
+    let next : address_of p ≡ x.0 + 1 = n.0 in
     record {
       next = next;
       bare = n.1;
@@ -222,7 +216,7 @@ zeros_joined marked x p h zero_word zeros =
 -- a piece that is the end of a text
 record IsEnd (p : Piece) : Type 0 where
   size : count p ≡ text_count (text_of p)
-  words : words_in p ≡ at_addresses (place p) (text_words (text_of p))
+  words : words_in p ≡ at_addresses (address_of p) (text_words (text_of p))
   characters : IsPiece p → list_all is_text_character (text_of p) ≡ true
 
 word_end : (a w : ℕ) → is_end w ≡ true → IsEnd (pieces.Word a w)
@@ -249,7 +243,7 @@ text_joined : (marked : ℕ → Bool) (x : ℕ × ℕ) (p : Piece) → is_next m
     → IsJoined marked x p (pieces.Text x.0 (ascii_text x.1 ++ text_of p))
 text_joined marked x p h full end =
     let n = next_at marked x p h in
-    let next : place p ≡ x.0 + 1 = n.0 in
+    let next : address_of p ≡ x.0 + 1 = n.0 in
     let f = fills x.1 full in
     let size : text_count (ascii_text x.1 ++ text_of p) ≡ count p + 1 =
     full_count x.1 (text_of p) ∙ ap (λ k. k + 1) (sym end.size) in
@@ -270,14 +264,14 @@ text_joined marked x p h full end =
 
 -- words of 0 as a piece
 record IsRun (a n : ℕ) (z : Piece) : Type 0 where
-  at : place z ≡ a
+  at : address_of z ≡ a
   size : count z ≡ n
   words : words_in z ≡ at_addresses a (replicate n 0)
   is : 0 < n → a + n ≤ 2 ^ 18 → IsPiece z
 
 run_if : (a n : ℕ) (b : Bool) → (n == 1) ≡ b → IsRun a n (if b then pieces.Word a 0 else pieces.Zeros a n)
 run_if a n true e =
-    let one : n ≡ 1 = same_number n 1 e in
+    let one : n ≡ 1 = eqb-true n 1 e in
     record {
       at = refl;
       size = sym one;
@@ -288,10 +282,10 @@ run_if a n false e = record { at = refl; size = refl; words = refl; is = λ some
 
 -- words of 0 in two: the first, and those behind it
 record IsCut (p z : Piece) : Type 0 where
-  at : place z ≡ place p + 1
+  at : address_of z ≡ address_of p + 1
   some : 0 < count z
   size : count p ≡ count z + 1
-  words : words_in p ≡ (place p, 0) ∷ words_in z
+  words : words_in p ≡ (address_of p, 0) ∷ words_in z
   is : IsPiece p → IsPiece z
 
 zeros_cut : (a n : ℕ) → 1 < n → IsCut (pieces.Zeros a n) (zeros_at (a + 1) (n - 1))
@@ -333,7 +327,7 @@ module _ (marked : ℕ → Bool) (x : ℕ × ℕ) (ps : List Piece) (P : List Pi
       → ((t z : Piece) → IsCut (pieces.Zeros a n) z → IsJoined marked x (pieces.Word a 0) t → P (t ∷ z ∷ ps))
       → P (pieces.Text x.0 (ascii_text x.1 ++ []) ∷ (if b then zeros_at (a + 1) (n - 1) ∷ ps else ps))
   rest_case a n true e some next more cut =
-      cut (pieces.Text x.0 (ascii_text x.1 ++ [])) (zeros_at (a + 1) (n - 1)) (zeros_cut a n (below_number 1 n e))
+      cut (pieces.Text x.0 (ascii_text x.1 ++ [])) (zeros_at (a + 1) (n - 1)) (zeros_cut a n (ltb-true 1 n e))
       (zeros_joined_text marked x a n next full)
   rest_case a n false e some next more cut =
       let one : n ≡ 1 = grind (arith, nat_tests) in
@@ -341,7 +335,7 @@ module _ (marked : ℕ → Bool) (x : ℕ × ℕ) (ps : List Piece) (P : List Pi
       (one_joined marked x a n (pieces.Text x.0 (ascii_text x.1 ++ [])) one (zeros_joined_text marked x a n next full))
 
   end_case : (p : Piece) → ends_text p ≡ true → is_next marked x p ≡ true → ((t : Piece) → IsJoined marked x p t → P (t ∷ ps))
-      → ((t z : Piece) → IsCut p z → IsJoined marked x (pieces.Word (place p) 0) t → P (t ∷ z ∷ ps))
+      → ((t z : Piece) → IsCut p z → IsJoined marked x (pieces.Word (address_of p) 0) t → P (t ∷ z ∷ ps))
       → P (pieces.Text x.0 (ascii_text x.1 ++ text_of p) ∷ rest_before p ps)
   end_case (pieces.Word a w) end next more cut =
       more (pieces.Text x.0 (ascii_text x.1 ++ text_in w)) (text_joined marked x (pieces.Word a w) next full (word_end a w end))
@@ -352,7 +346,7 @@ module _ (marked : ℕ → Bool) (x : ℕ × ℕ) (ps : List Piece) (P : List Pi
 -- a word before a piece is alone, or joins it, or joins the first of its words of 0
 module _ (marked : ℕ → Bool) (blocks texts : Bool) (x : ℕ × ℕ) (p : Piece) (ps : List Piece) (P : List Piece → Type 0)
     (one : (s : Piece) → IsAlone x s → P (s ∷ p ∷ ps)) (more : (n : Piece) → IsJoined marked x p n → P (n ∷ ps))
-    (cut : (n z : Piece) → IsCut p z → IsJoined marked x (pieces.Word (place p) 0) n → P (n ∷ z ∷ ps)) where
+    (cut : (n z : Piece) → IsCut p z → IsJoined marked x (pieces.Word (address_of p) 0) n → P (n ∷ z ∷ ps)) where
   text_case : (b : Bool) → joins_text texts x p ≡ b → is_next marked x p ≡ true → P (text_if b texts x p ps)
   text_case true e next =
       let t = text_parts texts x p e in
@@ -374,7 +368,7 @@ module _ (marked : ℕ → Bool) (blocks texts : Bool) (x : ℕ × ℕ) (p : Pie
 
 -- ---- they are pieces
 
-behind_below : (p : Piece) → IsPiece p → place p < 2 ^ 18 → behind p ≤ 2 ^ 18
+behind_below : (p : Piece) → IsPiece p → address_of p < 2 ^ 18 → behind p ≤ 2 ^ 18
 behind_below (pieces.Word a w) is h = omega arith
 behind_below (pieces.Zeros a n) is h = is.1
 behind_below (pieces.Text a text) is h = is.1
@@ -382,28 +376,28 @@ behind_below (pieces.Text a text) is h = is.1
 alone_pieces : (x : ℕ × ℕ) (s : Piece) (ps : List Piece) (least : ℕ) → IsAlone x s → least ≤ x.0 → x.0 < 2 ^ 18 → x.1 < 2 ^ 36
     → ArePieces (x.0 + 1) ps → ArePieces least (s ∷ ps)
 alone_pieces x s ps least a low high fits h =
-    let at : place s ≡ x.0 = a.at in
-    let ends : x.0 + 1 ≡ place s + count s = omega (arith, at, a.one) in
+    let at : address_of s ≡ x.0 = a.at in
+    let ends : x.0 + 1 ≡ address_of s + count s = omega (arith, at, a.one) in
     (omega (arith, at), omega (arith, at, high), a.is high fits, subst (λ (n : ℕ). ArePieces n ps) ends h)
 
 joined_pieces : (marked : ℕ → Bool) (x : ℕ × ℕ) (p n : Piece) (ps : List Piece) (least : ℕ) → IsJoined marked x p n → least ≤ x.0 → x.0 < 2 ^ 18
     → ArePieces (x.0 + 1) (p ∷ ps) → ArePieces least (n ∷ ps)
 joined_pieces marked x p n ps least j low high h =
-    let at : place n ≡ x.0 = j.at in
-    let next : place p ≡ x.0 + 1 = j.next in
+    let at : address_of n ≡ x.0 = j.at in
+    let next : address_of p ≡ x.0 + 1 = j.next in
     let size : count n ≡ count p + 1 = j.size in
-    let ends : place p + count p ≡ place n + count n = omega (arith, at, next, size) in
+    let ends : address_of p + count p ≡ address_of n + count n = omega (arith, at, next, size) in
     (omega (arith, at), omega (arith, at, high), j.is h.2 (behind_below p h.2 h.1), subst (λ (k : ℕ). ArePieces k ps) ends h.3)
 
 cut_pieces : (p z : Piece) (ps : List Piece) (least : ℕ) → IsCut p z → ArePieces least (p ∷ ps)
-    → ArePieces least (pieces.Word (place p) 0 ∷ z ∷ ps)
+    → ArePieces least (pieces.Word (address_of p) 0 ∷ z ∷ ps)
 cut_pieces p z ps least c h =
-    let at : place z ≡ place p + 1 = c.at in
+    let at : address_of z ≡ address_of p + 1 = c.at in
     let some : 0 < count z = c.some in
     let size : count p ≡ count z + 1 = c.size in
-    let most : place p + count p ≤ 2 ^ 18 = behind_below p h.2 h.1 in
-    let ends : place p + count p ≡ place z + count z = omega (arith, at, size) in
-    let high : place z < 2 ^ 18 = omega (arith, at, some, size, most) in
+    let most : address_of p + count p ≤ 2 ^ 18 = behind_below p h.2 h.1 in
+    let ends : address_of p + count p ≡ address_of z + count z = omega (arith, at, size) in
+    let high : address_of z < 2 ^ 18 = omega (arith, at, some, size, most) in
     (h.0, h.1, lit< tt, (omega (arith, at), high, c.is h.2, subst (λ (k : ℕ). ArePieces k ps) ends h.3))
 
 with_pieces : (blocks texts : Bool) (marked : ℕ → Bool) (x : ℕ × ℕ) (ps : List Piece) (least : ℕ) → least ≤ x.0 → x.0 < 2 ^ 18 → x.1 < 2 ^ 36
@@ -412,7 +406,7 @@ with_pieces blocks texts marked x [] least low high fits h = alone_pieces x (alo
 with_pieces blocks texts marked x (p ∷ ps) least low high fits h =
     by_step marked blocks texts x p ps (λ new. ArePieces least new) (λ s a. alone_pieces x s (p ∷ ps) least a low high fits h)
     (λ n j. joined_pieces marked x p n ps least j low high h)
-    (λ n z c j. joined_pieces marked x (pieces.Word (place p) 0) n (z ∷ ps) least j low high (cut_pieces p z ps (x.0 + 1) c h))
+    (λ n z c j. joined_pieces marked x (pieces.Word (address_of p) 0) n (z ∷ ps) least j low high (cut_pieces p z ps (x.0 + 1) c h))
 
 pub are_pieces : (blocks texts : Bool) (marked : ℕ → Bool) (least : ℕ) (xs : List (ℕ × ℕ)) → AreWords least xs
     → ArePieces least (pieces_of blocks texts marked xs)
@@ -466,12 +460,12 @@ pub heads_are : (least : ℕ) (ps : List Piece) → ArePieces least ps → AreWo
 heads_are least [] h = tt
 heads_are least (p ∷ ps) h =
     let some : 0 < count p = some_words p h.2 in
-    (h.0, h.1, first_fits p h.2, rise_lower (place p + 1) (behind p) (heads ps) (omega (arith, some)) (heads_are (behind p) ps h.3))
+    (h.0, h.1, first_fits p h.2, rise_lower (address_of p + 1) (behind p) (heads ps) (omega (arith, some)) (heads_are (behind p) ps h.3))
 
 other_label : (marked : ℕ → Bool) (q a : ℕ) (b : Bool) → (a == q) ≡ b → marked q ≡ true → not (marked a) ≡ true → b ≡ false
 other_label marked q a false e m bare = refl
 other_label marked q a true e m bare =
-    let same : a ≡ q = same_number a q e in
+    let same : a ≡ q = eqb-true a q e in
     let off : not (marked q) ≡ true = subst (λ (n : ℕ). not (marked n) ≡ true) same bare in
     absurd (cc)
 
@@ -492,10 +486,10 @@ with_heads blocks texts marked q x (p ∷ ps) m h =
     by_step marked blocks texts x p ps (λ new. has_word (heads new) q ≡ true)
     (λ s a. ap (λ k. k == q || has_word (heads (p ∷ ps)) q) a.at ∙ h)
     (λ n j. ap (λ k. k == q || has_word (heads ps) q) j.at
-    ∙ drop_middle (x.0 == q) (place p == q) (has_word (heads ps) q) (other_label marked q (place p) (place p == q) refl m j.bare) h)
-    (λ n z c j. ap (λ k. k == q || (place z == q || has_word (heads ps) q)) j.at
-    ∙ add_middle (x.0 == q) (place z == q) (has_word (heads ps) q)
-    (drop_middle (x.0 == q) (place p == q) (has_word (heads ps) q) (other_label marked q (place p) (place p == q) refl m j.bare) h))
+    ∙ drop_middle (x.0 == q) (address_of p == q) (has_word (heads ps) q) (other_label marked q (address_of p) (address_of p == q) refl m j.bare) h)
+    (λ n z c j. ap (λ k. k == q || (address_of z == q || has_word (heads ps) q)) j.at
+    ∙ add_middle (x.0 == q) (address_of z == q) (has_word (heads ps) q)
+    (drop_middle (x.0 == q) (address_of p == q) (has_word (heads ps) q) (other_label marked q (address_of p) (address_of p == q) refl m j.bare) h))
 
 or_later : (a b c : Bool) → (b ≡ true → c ≡ true) → (a || b) ≡ true → (a || c) ≡ true
 or_later true b c f h = refl
@@ -515,26 +509,26 @@ begins blocks texts marked q (x ∷ xs) m h =
 
 alone_placed : (x : ℕ × ℕ) (s : Piece) (ps : List Piece) → IsAlone x s → x.0 < 2 ^ 18 → ArePlaced ps → ArePlaced (s ∷ ps)
 alone_placed x s ps a high h =
-    let at : place s ≡ x.0 = a.at in
+    let at : address_of s ≡ x.0 = a.at in
     ((omega (arith, at, high), omega (arith, at, a.one, high)), h)
 
 joined_placed : (marked : ℕ → Bool) (x : ℕ × ℕ) (p n : Piece) (ps : List Piece) → IsJoined marked x p n → x.0 < 2 ^ 18 → ArePlaced (p ∷ ps) → ArePlaced (n ∷ ps)
 joined_placed marked x p n ps j high h =
-    let at : place n ≡ x.0 = j.at in
-    let next : place p ≡ x.0 + 1 = j.next in
+    let at : address_of n ≡ x.0 = j.at in
+    let next : address_of p ≡ x.0 + 1 = j.next in
     let size : count n ≡ count p + 1 = j.size in
-    let most : place p + count p ≤ 2 ^ 18 = h.0.1 in
+    let most : address_of p + count p ≤ 2 ^ 18 = h.0.1 in
     ((omega (arith, at, high), omega (arith, at, next, size, most)), h.1)
 
-cut_placed : (p z : Piece) (ps : List Piece) → IsCut p z → ArePlaced (p ∷ ps) → ArePlaced (pieces.Word (place p) 0 ∷ z ∷ ps)
+cut_placed : (p z : Piece) (ps : List Piece) → IsCut p z → ArePlaced (p ∷ ps) → ArePlaced (pieces.Word (address_of p) 0 ∷ z ∷ ps)
 cut_placed p z ps c h =
-    let at : place z ≡ place p + 1 = c.at in
+    let at : address_of z ≡ address_of p + 1 = c.at in
     let some : 0 < count z = c.some in
     let size : count p ≡ count z + 1 = c.size in
-    let most : place p + count p ≤ 2 ^ 18 = h.0.1 in
-    let next : place p + 1 ≤ 2 ^ 18 = omega (arith, size, most) in
-    let high : place z < 2 ^ 18 = omega (arith, at, some, size, most) in
-    let last : place z + count z ≤ 2 ^ 18 = omega (arith, at, size, most) in
+    let most : address_of p + count p ≤ 2 ^ 18 = h.0.1 in
+    let next : address_of p + 1 ≤ 2 ^ 18 = omega (arith, size, most) in
+    let high : address_of z < 2 ^ 18 = omega (arith, at, some, size, most) in
+    let last : address_of z + count z ≤ 2 ^ 18 = omega (arith, at, size, most) in
     ((h.0.0, next), ((high, last), h.1))
 
 with_placed : (blocks texts : Bool) (marked : ℕ → Bool) (x : ℕ × ℕ) (ps : List Piece) → x.0 < 2 ^ 18 → ArePlaced ps
@@ -542,7 +536,7 @@ with_placed : (blocks texts : Bool) (marked : ℕ → Bool) (x : ℕ × ℕ) (ps
 with_placed blocks texts marked x [] high h = alone_placed x (alone texts x) [] (alone_is texts x) high h
 with_placed blocks texts marked x (p ∷ ps) high h =
     by_step marked blocks texts x p ps ArePlaced (λ s a. alone_placed x s (p ∷ ps) a high h) (λ n j. joined_placed marked x p n ps j high h)
-    (λ n z c j. joined_placed marked x (pieces.Word (place p) 0) n (z ∷ ps) j high (cut_placed p z ps c h))
+    (λ n z c j. joined_placed marked x (pieces.Word (address_of p) 0) n (z ∷ ps) j high (cut_placed p z ps c h))
 
 pub are_placed : (blocks texts : Bool) (marked : ℕ → Bool) (least : ℕ) (xs : List (ℕ × ℕ)) → Rises least xs
     → ArePlaced (pieces_of blocks texts marked xs)

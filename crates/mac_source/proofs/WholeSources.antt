@@ -8,7 +8,7 @@ use Rattle.mac_layout.specs.Addresses.{first_address}
 use Rattle.mac_asm.specs.Assembly.{Assembled}
 use Rattle.mac_source.specs.Sources.{Style, ArePrinting, loc_text, piece_line, end_line, lines_text, pieces_in, source_with}
 use Rattle.mac_source.specs.declared.pieces.Piece.{Piece}
-use Rattle.mac_source.specs.Pieces.{place, behind}
+use Rattle.mac_source.specs.Pieces.{address_of, behind}
 use Rattle.mac_source.proofs.PieceLemmas.{ArePieces}
 use Rattle.mac_source.proofs.Given.{loc_if, piece_given, loc_given, end_given, lines_given}
 use Rattle.mac_source.proofs.WrittenWords.{Stands, piece_source, loc_source, end_source, piece_stands, loc_stands, end_stands}
@@ -16,7 +16,7 @@ use Rattle.mac_source.proofs.WrittenWords.{Stands, piece_source, loc_source, end
 -- the lines before END
 lines_source : (style : Style) → ArePrinting style → (here least : ℕ) (ps : List Piece) → ArePieces least ps → List SourceLine
 lines_source style ok here least [] r = []
-lines_source style ok here least (p ∷ ps) r = loc_if (place p == here) (loc_source (place p)) (piece_source style ok p r.2 ∷ lines_source style ok (behind p) (behind p) ps r.3)
+lines_source style ok here least (p ∷ ps) r = loc_if (address_of p == here) (loc_source (address_of p)) (piece_source style ok p r.2 ∷ lines_source style ok (behind p) (behind p) ps r.3)
 
 first_text : (l : SourceLine) (text : List ℕ) (given : Line) (ls : List SourceLine) (rest more : List ℕ) → Stands l text given
     → source_before ls rest ≡ more → source_before (l ∷ ls) rest ≡ text ++ more
@@ -35,7 +35,7 @@ unfolding lines_source source_before lines_text
 text_is style ok start here least [] r rest e = e
 text_is style ok start here least (p ∷ ps) r rest e =
     let later = lines_source style ok (behind p) (behind p) ps r.3 in
-    loc_first (place p == here) (place p) (piece_source style ok p r.2 ∷ later) rest (piece_line style p ++ lines_text style start (behind p) ps)
+    loc_first (address_of p == here) (address_of p) (piece_source style ok p r.2 ∷ later) rest (piece_line style p ++ lines_text style start (behind p) ps)
     (first_text (piece_source style ok p r.2) (piece_line style p) (piece_given style p) later rest (lines_text style start (behind p) ps)
     (piece_stands style ok p r.2) (text_is style ok start (behind p) (behind p) ps r.3 rest e))
 
@@ -50,7 +50,7 @@ unfolding lines_source lines_given
 given_is style ok start here least [] r = refl
 given_is style ok start here least (p ∷ ps) r =
     let later = lines_source style ok (behind p) (behind p) ps r.3 in
-    loc_given_first (place p == here) (place p) (piece_source style ok p r.2 ∷ later) (piece_given style p ∷ lines_given style start (behind p) ps) (end_given style.marked start)
+    loc_given_first (address_of p == here) (address_of p) (piece_source style ok p r.2 ∷ later) (piece_given style p ∷ lines_given style start (behind p) ps) (end_given style.marked start)
     (ap (λ l. l ∷ (source_given later ++ end_given style.marked start ∷ [])) (piece_stands style ok p r.2).means
     ∙ ap (λ ls. piece_given style p ∷ ls) (given_is style ok start (behind p) (behind p) ps r.3))
 
@@ -77,7 +77,7 @@ unfolding lines_source GoOn
 all_go_on style ok here least [] r = tt
 all_go_on style ok here least (p ∷ ps) r =
     let later = lines_source style ok (behind p) (behind p) ps r.3 in
-    loc_goes_on (place p == here) (place p) (piece_source style ok p r.2 ∷ later)
+    loc_goes_on (address_of p == here) (address_of p) (piece_source style ok p r.2 ∷ later)
     (goes_on (piece_source style ok p r.2) (piece_line style p) (piece_given style p) later (piece_stands style ok p r.2)
     (record { radix = refl; goes = refl }) (all_go_on style ok (behind p) (behind p) ps r.3))
 
@@ -96,7 +96,7 @@ unfolding lines_source radix_behind
 all_kept style ok here least [] r = refl
 all_kept style ok here least (p ∷ ps) r =
     let later = lines_source style ok (behind p) (behind p) ps r.3 in
-    loc_kept (place p == here) (place p) (piece_source style ok p r.2 ∷ later)
+    loc_kept (address_of p == here) (address_of p) (piece_source style ok p r.2 ∷ later)
     (radix_kept (piece_source style ok p r.2) (piece_line style p) (piece_given style p) later (piece_stands style ok p r.2)
     (record { radix = refl; goes = refl }) (all_kept style ok (behind p) (behind p) ps r.3))
 

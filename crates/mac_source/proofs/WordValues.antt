@@ -1,9 +1,8 @@
 -- The value of the statement of a word is the word, where the labels that it speaks of have their addresses.
-use Rattle.std.proofs.Common.{◌≡◌, ◌<◌, ◌≤◌, ◌∙◌, sym, ap, ℕ, ◌+◌, ◌*◌, ◌/◌, ◌%◌, ◌^◌, ◌==◌, Bool, true, false, nat_eq, nat_le}
+use Rattle.std.proofs.Common.{◌≡◌, ◌<◌, ◌≤◌, ◌∙◌, sym, ap, ℕ, ◌+◌, ◌*◌, ◌/◌, ◌%◌, ◌^◌, ◌==◌, Bool, true, false, nat_le}
 use Rattle.std.proofs.Common.{[], ◌∷◌, Option, Some, None, option_map, if◌then◌else◌, arith, refl}
 use Rattle.std.specs.Prelude.{pos}
-use Rattle.std.proofs.lemmas.Bool.{le-leb}
-use Rattle.std.proofs.lemmas.Bool.Decides.{nat_tests}
+use Rattle.std.proofs.lemmas.Bool.{cond-true, eqb-true, le-leb}
 use Rattle.word36.specs.Words.{left_half, right_half}
 use Rattle.ka_isa.specs.declared.Fields.{Fields}
 use Rattle.ka_isa.specs.Fields.{fields_of, word_of as encoded}
@@ -14,16 +13,7 @@ use Rattle.mac_layout.specs.Addresses.{count_of}
 use Rattle.mac_asm.specs.Words.{fitted, half_of, register_of, start_of, or_zero, operand_of, with_accumulator, with_operand, instruction_of, halves_of, words_of}
 use Rattle.mac_source.proofs.LabelTexts.{read_number, number_value, size_value}
 use Rattle.mac_source.proofs.Given.{symbol_at, label_alone, address_alone, register_if, operation_data, data_in, word_data}
-
-cond-true : {A : Type 0} (b : Bool) (x y : A) → b ≡ true → (if b then x else y) ≡ x
-cond-true true x y h = refl
-cond-true false x y h = absurd (cc)
-
-value-number : (names : Names) (n : ℕ) → value_of names (number_alone n) ≡ Some (pos n)
-unfolding value_of
-value-number names n =
-    let e : 0 + n ≡ n = omega (arith) in
-    ap (λ p. Some (pos p)) e
+use Rattle.asm_laws.proofs.Printed.{value-number, half-residue, register-residue, fields-back}
 
 value-read : (names : Names) (n : ℕ) → n < 2 ^ 18 → value_of names (number_alone (read_number n)) ≡ Some (pos n)
 value-read names n h = value-number names (read_number n) ∙ ap (λ m. Some (pos m)) (number_value n h)
@@ -42,23 +32,11 @@ value-address : (names : Names) (b : Bool) (y : ℕ) → y < 2 ^ 18 → IsKnown 
 value-address names true y h known = value-label names y (known refl)
 value-address names false y h known = value-read names y h
 
-half-residue : (n : ℕ) → n < 2 ^ 18 → residue_of 262143 262143 262144 (pos n) ≡ Some n
-unfolding residue_of
-half-residue n h =
-    let e : n % 262144 ≡ n = omega (arith, h) in
-    cond-true (nat_le n 262143) _ _ (le-leb n 262143 (omega (arith, h))) ∙ ap Some e
-
 start-residue : (n : ℕ) → n < 2 ^ 18 → residue_of 0 262143 262144 (pos n) ≡ Some n
 unfolding residue_of
 start-residue n h =
     let e : n % 262144 ≡ n = omega (arith, h) in
     cond-true (nat_le n 262143) _ _ (le-leb n 262143 (omega (arith, h))) ∙ ap Some e
-
-register-residue : (n : ℕ) → n < 2 ^ 4 → residue_of 0 15 16 (pos n) ≡ Some n
-unfolding residue_of
-register-residue n h =
-    let e : n % 16 ≡ n = omega (arith, h) in
-    cond-true (nat_le n 15) _ _ (le-leb n 15 (omega (arith, h))) ∙ ap Some e
 
 half-address : (names : Names) (b : Bool) (y : ℕ) → y < 2 ^ 18 → IsKnown names b y → half_of names (address_alone b y) ≡ Some y
 unfolding fitted
@@ -84,18 +62,15 @@ register-number : (names : Names) (n : ℕ) → n < 2 ^ 4 → register_of names 
 unfolding fitted
 register-number names n h = ap (λ o. o >>= residue_of 0 15 16) (value-read names n (omega (arith, h))) ∙ register-residue n h
 
-zero-of : (n : ℕ) → (n == 0) ≡ true → n ≡ 0
-zero-of n h = grind (arith, nat_tests)
-
 -- a register that is not written is 0
 index-at : (names : Names) (n : ℕ) → n < 2 ^ 4 → (b : Bool) → (n == 0) ≡ b → or_zero (register_of names) (register_if b n) ≡ Some n
-index-at names n h true e = ap Some (sym (zero-of n e))
+index-at names n h true e = ap Some (sym (eqb-true n 0 e))
 index-at names n h false e = register-number names n h
 
 accumulator-at : (names : Names) (f : Fields) (n : ℕ) → n < 2 ^ 4 → f.ac ≡ 0 → (b : Bool) → (n == 0) ≡ b
     → with_accumulator names f (register_if b n) ≡ Some (record f { ac = n })
 unfolding with_accumulator
-accumulator-at names f n h z true e = ap (λ m. Some (record f { ac = m })) (z ∙ sym (zero-of n e))
+accumulator-at names f n h z true e = ap (λ m. Some (record f { ac = m })) (z ∙ sym (eqb-true n 0 e))
 accumulator-at names f n h z false e = ap (λ o. o >>= λ ac. Some (record f { ac = ac })) (register-number names n h)
 
 operand-value : (names : Names) (i b : Bool) (x y : ℕ) → x < 2 ^ 4 → y < 2 ^ 18 → IsKnown names b y
@@ -111,25 +86,6 @@ operand-written : (names : Names) (f : Fields) (i b : Bool) (x y : ℕ) → x < 
 unfolding with_operand
 operand-written names f true b x y h g known = ap (λ o. o >>= λ p. Some (record f { i = p.0; x = p.1; y = p.2 })) (operand-value names true b x y h g known)
 operand-written names f false b x y h g known = ap (λ o. o >>= λ p. Some (record f { i = p.0; x = p.1; y = p.2 })) (operand-value names false b x y h g known)
-
-bit-set : (n : ℕ) → nat_eq n 1 ≡ true → n ≡ 1
-bit-set n h = grind (arith, nat_tests)
-
-bit-clear : (n : ℕ) → n < 2 → nat_eq n 1 ≡ false → n ≡ 0
-bit-clear n l h = grind (arith, nat_tests)
-
-sum-back : (w : ℕ) (b : Bool) → nat_eq (w / 2 ^ 22 % 2) 1 ≡ b
-    → w / 2 ^ 27 * 2 ^ 27 + w / 2 ^ 23 % 2 ^ 4 * 2 ^ 23 + (if b then 2 ^ 22 else 0) + w / 2 ^ 18 % 2 ^ 4 * 2 ^ 18 + w % 2 ^ 18 ≡ w
-sum-back w true h =
-    let e : w / 2 ^ 22 % 2 ≡ 1 = bit-set (w / 2 ^ 22 % 2) h in
-    omega (arith, e)
-sum-back w false h =
-    let e : w / 2 ^ 22 % 2 ≡ 0 = bit-clear (w / 2 ^ 22 % 2) (omega (arith)) h in
-    omega (arith, e)
-
--- the word of the fields of a word is the word
-fields-back : (w : ℕ) → encoded (fields_of w) ≡ w
-fields-back w = sum-back w (nat_eq (w / 2 ^ 22 % 2) 1) refl
 
 instruction-back : (names : Names) (marked : ℕ → Bool) (w : ℕ) → w < 2 ^ 36 → IsKnown names (marked (right_half w)) (right_half w)
     → instruction_of names (operation_data marked (fields_of w)) ≡ Some w

@@ -29,13 +29,13 @@ use Rattle.mac_text.proofs.PrintedLemmas.{IsPlain, plain_name}
 use Rattle.mac_source.specs.Sources.{Style, ArePrinting, IsPrinting, shown, mark_text, behind_text, label_text, address_text, instruction_text, halves_text, named_text, block_text, asciz_text, contains, delimiter_of, piece_text, piece_line, loc_text, end_line}
 use Rattle.mac_source.specs.declared.pieces.Piece.{Piece}
 use Rattle.mac_source.specs.declared.pieces.Piece.TheVariants as pieces
-use Rattle.mac_source.specs.Pieces.{first, place, is_text_character}
+use Rattle.mac_source.specs.Pieces.{first, address_of, is_text_character}
 use Rattle.mac_source.proofs.PieceLemmas.{IsPiece}
 use Rattle.mac_text.specs.declared.syntax.TextForm.TheVariants.{Asciz}
 use Rattle.mac_text.specs.Characters.{is_blank}
 use Rattle.mac_text.specs.Printed.{number_alone}
 use Rattle.mac_source.specs.Notes.{is_printing}
-use Rattle.mac_source.proofs.LabelTexts.{octal_digits, octal_some, label_characters, label_names, read_number}
+use Rattle.mac_source.proofs.LabelTexts.{all_so, octal_digits, octal_some, label_characters, label_names, read_number}
 use Rattle.mac_source.proofs.Given.{address_alone, register_if, data_in, symbols_if, piece_data, piece_given, loc_given, end_given}
 
 -- ---- parts
@@ -307,16 +307,10 @@ no_return : (c : ℕ) → is_printed c ≡ true → (c == 13) ≡ false
 no_return c h = grind (arith, nat_tests)
 
 all_ascii : (text : List ℕ) → list_all is_printed text ≡ true → list_all is_ascii text ≡ true
-all_ascii [] h = refl
-all_ascii (c ∷ cs) h =
-    let p = and_parts (is_printed c) (list_all is_printed cs) h in
-    rw (ascii_one c p.0, all_ascii cs p.1) refl
+all_ascii = all_so is_printed is_ascii ascii_one
 
 all_on_line : (text : List ℕ) → list_all is_printed text ≡ true → list_all is_line_character text ≡ true
-all_on_line [] h = refl
-all_on_line (c ∷ cs) h =
-    let p = and_parts (is_printed c) (list_all is_printed cs) h in
-    rw (no_feed c p.0, all_on_line cs p.1) refl
+all_on_line = all_so is_printed is_line_character no_feed
 
 no_return_at : (text : List ℕ) (k : ℕ) → list_all is_printed text ≡ true → (slice_index text k == 13) ≡ false
 no_return_at [] k h = refl
@@ -404,7 +398,7 @@ piece_statement style (pieces.Text a text) is = asciz_statement text is.0
 
 abbrev piece_text_line : Style → (p : Piece) → IsPiece p → LineText 8
 piece_text_line style p is =
-    line_with (labels_if (style.marked (place p)) (place p)) (piece_statement style p is) (style.comment (first p))
+    line_with (labels_if (style.marked (address_of p)) (address_of p)) (piece_statement style p is) (style.comment (first p))
 
 abbrev loc_statement : ℕ → StatementText 8 Literals
 loc_statement p = Written.Formed (record { text = codes "LOC"; characters = refl; names = refl }) (Written.Loc (expression one (number_term p)))
@@ -438,24 +432,21 @@ piece_before style (pieces.Text a text) is rest = asciz_before text is.0 rest
 
 abbrev bare_piece : Style → Piece → List ℕ
 bare_piece style p =
-    mark_text (style.marked (place p)) (place p) ++ (32 ∷ (piece_text style p ++ behind_text (style.comment (first p))))
+    mark_text (style.marked (address_of p)) (address_of p) ++ (32 ∷ (piece_text style p ++ behind_text (style.comment (first p))))
 
 piece_text_is : (style : Style) (p : Piece) (is : IsPiece p) → line_text (piece_text_line style p is) ≡ bare_piece style p
 piece_text_is style p is =
     let comment = style.comment (first p) in
     let tail = (blanks_of comment).text ++ Written.comment_text comment in
-    labels_are (style.marked (place p)) (place p) (32 ∷ statement_before literal_text (piece_statement style p is) tail)
-    ∙ ap (λ t. mark_text (style.marked (place p)) (place p) ++ (32 ∷ t))
+    labels_are (style.marked (address_of p)) (address_of p) (32 ∷ statement_before literal_text (piece_statement style p is) tail)
+    ∙ ap (λ t. mark_text (style.marked (address_of p)) (address_of p) ++ (32 ∷ t))
     (piece_before style p is tail ∙ ap (λ t. piece_text style p ++ t) (comment_is comment))
 
 printing_is_printed : (c : ℕ) → is_printing c ≡ true → is_printed c ≡ true
 printing_is_printed c h = grind (arith, nat_tests)
 
 all_printed : (text : List ℕ) → list_all is_printing text ≡ true → list_all is_printed text ≡ true
-all_printed [] h = refl
-all_printed (c ∷ cs) h =
-    let p = and_parts (is_printing c) (list_all is_printing cs) h in
-    behind c cs (printing_is_printed c p.0) (all_printed cs p.1)
+all_printed = all_so is_printing is_printed printing_is_printed
 
 comment_printed : (comment : Option (List ℕ)) → IsPrinting comment → list_all is_printed (behind_text comment) ≡ true
 comment_printed None h = refl
@@ -472,10 +463,7 @@ character_printed : (c : ℕ) → is_text_character c ≡ true → is_printed c 
 character_printed c h = grind (arith, nat_tests)
 
 characters_printed : (text : List ℕ) → list_all is_text_character text ≡ true → list_all is_printed text ≡ true
-characters_printed [] h = refl
-characters_printed (c ∷ cs) h =
-    let parts = and_parts (is_text_character c) (list_all is_text_character cs) h in
-    behind c cs (character_printed c parts.0) (characters_printed cs parts.1)
+characters_printed = all_so is_text_character is_printed character_printed
 
 delimiter_printed : (slash quote : Bool) → is_printed (delimiter_if slash quote) ≡ true
 delimiter_printed false quote = refl
@@ -497,7 +485,7 @@ statement_text_printed style (pieces.Text a text) is = asciz_printed text is.0
 piece_printed : (style : Style) (p : Piece) → IsPiece p → IsPrinting (style.comment (first p)) → list_all is_printed (bare_piece style p) ≡ true
 piece_printed style p is ok =
     let rest = piece_text style p ++ behind_text (style.comment (first p)) in
-    both (mark_text (style.marked (place p)) (place p)) (32 ∷ rest) (label_printed (style.marked (place p)) (place p))
+    both (mark_text (style.marked (address_of p)) (address_of p)) (32 ∷ rest) (label_printed (style.marked (address_of p)) (address_of p))
     (behind 32 rest refl
     (both (piece_text style p) (behind_text (style.comment (first p))) (statement_text_printed style p is)
     (comment_printed (style.comment (first p)) ok)))
@@ -596,14 +584,14 @@ piece_means style p is =
       labels = ls;
       statement = Some (statement_given (piece_statement style p is));
       literals = map (λ l. l.given) (statement_literals (piece_statement style p is));
-    }) (symbols_are (style.marked (place p)) (place p))
+    }) (symbols_are (style.marked (address_of p)) (address_of p))
     ∙ (ap (λ s. record {
-      labels = symbols_if (style.marked (place p)) (place p);
+      labels = symbols_if (style.marked (address_of p)) (address_of p);
       statement = Some s;
       literals = map (λ l. l.given) (statement_literals (piece_statement style p is));
     }) (given_means style p is)
     ∙ ap (λ ls. record {
-      labels = symbols_if (style.marked (place p)) (place p);
+      labels = symbols_if (style.marked (address_of p)) (address_of p);
       statement = Some (statements.Data (piece_data style p));
       literals = map (λ l. l.given) ls;
     }) (given_holds style p is))

@@ -54,8 +54,8 @@ first (variants.Word a w) = (a, w)
 first (variants.Zeros a n) = (a, 0)
 first (variants.Text a text) = (a, ascii_word text 0)
 
-abbrev pub place : Piece → ℕ
-place p = (first p).0
+abbrev pub address_of : Piece → ℕ
+address_of p = (first p).0
 
 -- how many words it has
 abbrev pub count : Piece → ℕ
@@ -65,7 +65,7 @@ count (variants.Text a text) = text_count text
 
 -- the address behind it
 abbrev pub behind : Piece → ℕ
-behind p = place p + count p
+behind p = address_of p + count p
 
 -- its words with their addresses
 abbrev pub words_in : Piece → List (ℕ × ℕ)
@@ -81,7 +81,7 @@ is_zeros (variants.Text a text) = false
 
 -- a piece that stands right behind a word, with no label
 abbrev pub is_next : (ℕ → Bool) → ℕ × ℕ → Piece → Bool
-is_next marked x p = place p == x.0 + 1 && not (marked (place p))
+is_next marked x p = address_of p == x.0 + 1 && not (marked (address_of p))
 
 -- a word alone: a text of four characters, or a word
 abbrev pub alone : Bool → ℕ × ℕ → Piece
@@ -141,7 +141,7 @@ pieces_of blocks texts marked (x ∷ xs) = with_word blocks texts marked x (piec
 
 -- a piece below 2 ^ 18
 abbrev pub IsPlaced : Piece → Type 0
-IsPlaced p = (place p < 2 ^ 18) × (behind p ≤ 2 ^ 18)
+IsPlaced p = (address_of p < 2 ^ 18) × (behind p ≤ 2 ^ 18)
 
 abbrev pub ArePlaced : List Piece → Type 0
 ArePlaced [] = Unit {0}

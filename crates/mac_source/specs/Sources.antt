@@ -14,7 +14,7 @@ use Rattle.ka_isa.specs.Text.{accumulator_text, index_text}
 use Rattle.mac_layout.specs.Addresses.{first_address}
 use Rattle.mac_asm.specs.Assembly.{Assembled}
 use Rattle.mac_source.specs.Notes.{is_printing, note_of}
-use Rattle.mac_source.specs.Pieces.{first, place, behind, pieces_of}
+use Rattle.mac_source.specs.Pieces.{first, address_of, behind, pieces_of}
 use Rattle.mac_source.specs.declared.pieces.Piece.{Piece}
 use Rattle.mac_source.specs.declared.pieces.Piece.TheVariants as pieces
 use Rattle.mac_source.specs.declared.shown.Shown.{Shown}
@@ -99,7 +99,7 @@ piece_text style (pieces.Text a text) = asciz_text text
 -- a label, where the address has one, the statement, and the comment
 abbrev pub piece_line : Style → Piece → List ℕ
 piece_line style p =
-    mark_text (style.marked (place p)) (place p)
+    mark_text (style.marked (address_of p)) (address_of p)
     ++ (32 ∷ (piece_text style p ++ (behind_text (style.comment (first p)) ++ line_feed)))
 
 abbrev pub end_line : (ℕ → Bool) → ℕ → List ℕ
@@ -109,7 +109,7 @@ end_line marked start = codes " END " ++ (address_text marked start ++ line_feed
 unfoldable pub lines_text : Style → ℕ → ℕ → List Piece → List ℕ
 lines_text style start here [] = end_line style.marked start
 lines_text style start here (p ∷ ps) =
-    (if place p == here then [] else loc_text (place p)) ++ (piece_line style p ++ lines_text style start (behind p) ps)
+    (if address_of p == here then [] else loc_text (address_of p)) ++ (piece_line style p ++ lines_text style start (behind p) ps)
 
 -- the pieces of an image in a style
 abbrev pub pieces_in : Style → Assembled → List Piece

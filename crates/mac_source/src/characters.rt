@@ -120,7 +120,7 @@ pub fn packed(text: &[u8]) -> u64
         + bits_at(text, 4) * 2
 }
 
-/// How many characters a word has that is nothing but a text; none of other words.
+/// How many characters of a text a word has, where it has zero characters behind them and nothing else; none for other words.
 fn text_of_word(word: Word) -> Option<usize>
     ensures { result ≡ if reads_as_text word then Some (length (text_in word)) else None }
 {

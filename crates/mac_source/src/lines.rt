@@ -2,7 +2,7 @@
 ghost use Rattle.std.specs.Prelude.{◌≡◌, ◌<◌, ◌^◌, ◌++◌, ◌==◌, OnOk, length, if◌then◌else◌, []};
 ghost use Rattle.mac_source.specs.Sources.{asciz_text, block_text, contains, delimiter_of, loc_text, mark_text};
 ghost use Rattle.mac_source.specs.Sources.{behind_text, comment_if, piece_text, style_with, piece_line, end_line};
-ghost use Rattle.mac_source.specs.Pieces.{first, place};
+ghost use Rattle.mac_source.specs.Pieces.{address_of, first};
 ghost use Rattle.mac_source.specs.Marks.{marked_by};
 
 use crate::characters::Characters;
@@ -13,7 +13,7 @@ use crate::texts::{push_address, push_label, push_octal, push_statement};
 use std::alloc::{AllocError, Global};
 use word36::Word;
 
-/// Adds the line that sets an address, where the address reached is another.
+/// Adds ` LOC` with an address, where `here`, the address reached, is another.
 #[tactic(auto, using(std::proofs::Common::append_assoc))]
 pub fn push_loc(out: &mut Vec<u8>, address: u32, here: u32) -> Result<(), AllocError>
     ensures { OnOk result (out.new.items ≡ out.old.items ++ (if address == here then [] else loc_text address)) }
@@ -72,7 +72,7 @@ fn contains(text: &[u8], character: u8) -> bool
     text.iter().any(|one| *one == character)
 }
 
-/// A character that is not in a text, where `~` is not.
+/// A character that is not in a text, to stand before it and behind it. `~` is in no text.
 fn delimiter_of(text: &[u8]) -> u8
     ensures { result ≡ delimiter_of text.now }
 {
@@ -123,7 +123,7 @@ pub fn push_piece_line(
     piece: &Piece,
 ) -> Result<(), AllocError>
     requires marks { length marks.now ≡ 2 ^ 18 }
-    requires address { place piece.now < 2 ^ 18 }
+    requires address { address_of piece.now < 2 ^ 18 }
     ensures { OnOk result (out.new.items ≡ out.old.items ++ piece_line (style_with (marked_by marks.now) shown) piece.now) }
 {
     let head = first(alloc, piece)?;

@@ -2,7 +2,7 @@
 ghost use Rattle.std.specs.Prelude.{◌≡◌, ◌<◌, ◌≤◌, ◌^◌, ◌+◌, ◌∷◌, ◌==◌, ◌&&◌, IfOk, OnOk, length, not, reverse};
 ghost use Rattle.image_files.specs.Images.{Rises};
 ghost use Rattle.mac_source.specs.Pieces.{IsPlaced, alone, count, ends_text, first, is_next};
-ghost use Rattle.mac_source.specs.Pieces.{is_zeros, joins_text, joins_zeros, pieces_of, place, rest_before, text_of, with_word, zeros_at};
+ghost use Rattle.mac_source.specs.Pieces.{address_of, is_zeros, joins_text, joins_zeros, pieces_of, rest_before, text_of, with_word, zeros_at};
 ghost use Rattle.mac_source.specs.Marks.{marked_by};
 
 use crate::characters::{Characters, characters_in, is_end, is_full, is_text_alone, packed};
@@ -36,8 +36,8 @@ pub fn first(alloc: Global, piece: &Piece) -> Result<(u32, Word), AllocError>
 }
 
 /// The address of a piece.
-pub fn place(piece: &Piece) -> u32
-    ensures { result ≡ place piece.now }
+pub fn address_of(piece: &Piece) -> u32
+    ensures { result ≡ address_of piece.now }
 {
     match piece {
         Piece::Word(address, _) | Piece::Zeros(address, _) | Piece::Text(address, _) => *address,
@@ -72,9 +72,9 @@ fn is_next(marks: &[bool], address: u32, piece: &Piece) -> bool
     requires marks { length marks.now ≡ 2 ^ 18 }
     requires address { address < 2 ^ 18 }
     requires piece { IsPlaced piece.now }
-    ensures { result ≡ (place piece.now == address + 1 && not (marked_by marks.now (place piece.now))) }
+    ensures { result ≡ (address_of piece.now == address + 1 && not (marked_by marks.now (address_of piece.now))) }
 {
-    place(piece) == address + 1 && !marks[place(piece) as usize]
+    address_of(piece) == address + 1 && !marks[address_of(piece) as usize]
 }
 
 /// The piece of a word alone.

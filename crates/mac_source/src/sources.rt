@@ -9,7 +9,7 @@ ghost use Rattle.mac_source.specs.Marks.{assembled, marked_by};
 
 use crate::lines::{push_end, push_loc, push_piece_line};
 use crate::marks::marks_of;
-use crate::pieces::{Piece, count, pieces_of, place};
+use crate::pieces::{Piece, address_of, count, pieces_of};
 use crate::shown::Shown;
 use mac_layout::FIRST;
 use std::alloc::{AllocError, Global};
@@ -32,7 +32,7 @@ fn push_lines(
 {
     let mut here = FIRST;
     for piece in pieces {
-        let address = place(piece);
+        let address = address_of(piece);
         push_loc(out, address, here)?;
         push_piece_line(alloc, out, marks, shown, piece)?;
         here = address + count(piece);
