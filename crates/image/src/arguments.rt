@@ -5,7 +5,6 @@ use image_files::{Packing, packing_named};
 use mac_source::Shown;
 use program_shell::{Refusal, Wrong, make_flag, make_top, matches_of, refused};
 use std::alloc::{AllocError, Global};
-use std::convert::AsStr;
 
 /// A command of the program.
 #[derive(Clone, Copy, Debug, PartialEq, Eq, Drop)]
@@ -21,14 +20,14 @@ pub enum ImageCommand {
 }
 
 /// What the arguments ask for.
-#[derive(Drop)]
-pub struct Options {
+#[derive(Clone, Copy)]
+pub struct Options<'a> {
     /// What is done.
     pub command: ImageCommand,
     /// The file of the input, where it is not standard input.
-    pub input: Option<String>,
+    pub input: Option<&'a str>,
     /// The file of the output, where it is not standard output.
-    pub output: Option<String>,
+    pub output: Option<&'a str>,
 }
 
 const ABOUT: &str =
@@ -159,20 +158,8 @@ fn command_in(name: &str, given: &ArgMatches<'_>) -> Option<ImageCommand> {
     }
 }
 
-/// The file that is named, if one is.
-fn file_in(
-    alloc: Global,
-    given: &ArgMatches<'_>,
-    option: &'static str,
-) -> Result<Option<String>, AllocError> {
-    match given.get_str(option) {
-        None => Ok(None),
-        Some(name) => Ok(Some(String::from_str(alloc, name)?)),
-    }
-}
-
 /// What the matches ask for.
-fn options_in<'a>(alloc: Global, matches: &ArgMatches<'a>) -> Result<Options, Wrong<'a>> {
+fn options_in<'a>(matches: &ArgMatches<'a>) -> Result<Options<'a>, Wrong<'a>> {
     let Some((name, given)) = matches.subcommand() else {
         return Err(Wrong::Other(WRONG_FORM));
     };
@@ -181,18 +168,18 @@ fn options_in<'a>(alloc: Global, matches: &ArgMatches<'a>) -> Result<Options, Wr
     };
     Ok(Options {
         command,
-        input: file_in(alloc, given, "FILE")?,
-        output: file_in(alloc, given, "output")?,
+        input: given.get_str("FILE"),
+        output: given.get_str("output"),
     })
 }
 
 /// What the arguments, which begin with the program's name, ask for.
-pub fn read_arguments<S: AsStr>(alloc: Global, arguments: &[S]) -> Result<Options, Refusal> {
+pub fn read_arguments<'a>(alloc: Global, arguments: &'a [String]) -> Result<Options<'a>, Refusal> {
     let Ok(mut command) = make_command(alloc) else {
         return Err(Refusal::Memory);
     };
     let matches = matches_of(&mut command, arguments)?;
-    match options_in(alloc, &matches) {
+    match options_in(&matches) {
         Ok(options) => Ok(options),
         Err(wrong) => Err(refused(alloc, &mut command, wrong)),
     }

@@ -2,17 +2,49 @@
 //! and what is wrong with an input that is refused to standard error.
 #![tactic(auto)]
 
+ghost use Rattle.std.specs.Prelude.{◌≡◌, false};
+
 mod arguments;
 mod kept_output;
 mod reasons;
 mod serving;
 
-use program_shell::{arguments_of, unread_arguments};
-use script_io::{HostIn, HostOut};
-use serving::{FAILURE_LINES, program};
+use arguments::read_arguments;
+use image_service::Ending;
+use program_shell::{
+    DONE, FAILED, FailureLines, REFUSED, arguments_of, refuse_arguments, report_failure, report_to,
+    unread_arguments,
+};
+use reasons::reason_of;
+use script_io::{ByteOut, HostOut};
+use serving::{Stop, carry_out};
+use std::alloc::Global;
 use std::process::ExitCode;
 
+/// The lines by which the program reports a failure.
+const FAILURE_LINES: FailureLines = FailureLines {
+    read: b"image: read\n",
+    write: b"image: write\n",
+    memory: b"image: memory\n",
+};
+
+/// Reports how a command ended, and gives the exit status.
+fn status_of<E: ByteOut>(alloc: Global, ended: Result<Ending, Stop>, errors: &mut E) -> u8
+    requires { E.has_failed errors.old ≡ false }
+{
+    match ended {
+        Ok(Ending::Done) => DONE,
+        Ok(ending) => match reason_of(alloc, ending) {
+            Ok(text) => report_to(errors, text.as_slice(), REFUSED),
+            Err(_) => REFUSED,
+        },
+        Err(Stop::Failed(failure)) => report_failure(errors, &FAILURE_LINES, failure),
+        Err(Stop::File(line)) => report_to(errors, line.as_str().as_bytes(), FAILED),
+    }
+}
+
 fn main(rt: HostRuntime) -> ExitCode {
+    let alloc = rt.alloc();
     let mut errors = HostOut::new(rt.stderr());
     let arguments = match arguments_of(&rt) {
         Ok(arguments) => arguments,
@@ -21,14 +53,12 @@ fn main(rt: HostRuntime) -> ExitCode {
             return ExitCode::from(status);
         }
     };
-    let mut reader = HostIn::new(rt.stdin());
-    let mut writer = HostOut::new(rt.stdout());
-    let status = program(
-        &rt,
-        arguments.as_slice(),
-        &mut reader,
-        &mut writer,
-        &mut errors,
-    );
+    let status = match read_arguments(alloc, arguments.as_slice()) {
+        Ok(options) => status_of(alloc, carry_out(&rt, &options), &mut errors),
+        Err(refusal) => {
+            let mut writer = HostOut::new(rt.stdout());
+            refuse_arguments(alloc, refusal, &FAILURE_LINES, &mut writer, &mut errors)
+        }
+    };
     ExitCode::from(status)
 }

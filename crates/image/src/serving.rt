@@ -1,179 +1,103 @@
-//! The whole program over any ports.
+//! Commands that are carried out, on a file or standard input, to a file or standard output.
 ghost use Rattle.std.specs.Prelude.{◌≡◌, ◌≤◌, ◌^◌, false};
 
-use crate::arguments::{ImageCommand, Options, read_arguments};
+use crate::arguments::{ImageCommand, Options};
 use crate::kept_output::KeptOutput;
-use crate::reasons::reason_of;
 use image_service::{Ending, serve_list, serve_save, serve_source, serve_words};
-use program_shell::{
-    DONE, FAILED, Failure, FailureLines, REFUSED, refuse_arguments, report_failure, report_to,
-};
-use script_io::{ByteIn, ByteOut, HostIn, ServeFailure, write_all};
-use shown_bytes::shown_text;
+use program_shell::{Failure, file_error_text};
+use script_io::{ByteIn, ByteOut, HostIn, HostOut, ServeFailure, write_all};
 use std::alloc::{AllocError, Global};
-use std::convert::AsStr;
-use std::rt::Files;
 use std::{fs, io};
 
-/// The lines by which the program reports a failure.
-pub const FAILURE_LINES: FailureLines = FailureLines {
-    read: b"image: read\n",
-    write: b"image: write\n",
-    memory: b"image: memory\n",
-};
+/// Why the program ends before a command is carried out.
+#[derive(Drop)]
+pub enum Stop {
+    /// The input, the output or memory failed.
+    Failed(Failure),
+    /// A file cannot be read or written: the line that says so.
+    File(String),
+}
 
-/// Carries a command out.
-fn serve<R: ByteIn, W: ByteOut>(
+impl From<AllocError> for Stop {
+    fn from(_error: AllocError) -> Stop {
+        Stop::Failed(Failure::Memory)
+    }
+}
+
+/// That a file cannot be read or written, for this reason.
+fn stop_at(alloc: Global, file: &str, error: io::Error) -> Stop {
+    match file_error_text(alloc, "image: ", file, error) {
+        Ok(line) => Stop::File(line),
+        Err(_) => Stop::Failed(Failure::Memory),
+    }
+}
+
+/// Carries a command out, and keeps what comes of it.
+fn serve<R: ByteIn>(
     alloc: Global,
     command: ImageCommand,
     reader: &mut R,
-    writer: &mut W,
-) -> Result<Ending, ServeFailure>
+    kept: &mut KeptOutput,
+) -> Result<Ending, Stop>
     requires reader_sound { R.has_failed reader.old ≡ false }
-    requires writer_sound { W.has_failed writer.old ≡ false }
+    requires kept_sound { ⟦<KeptOutput as ByteOut>⟧.has_failed kept.old ≡ false }
     requires few { R.reads_left reader.old ≤ 2 ^ 63 }
 {
-    match command {
-        ImageCommand::Words { from, to } => serve_words(alloc, from, to, reader, writer),
-        ImageCommand::Source { from, shown } => serve_source(alloc, from, shown, reader, writer),
-        ImageCommand::Save { to } => serve_save(alloc, to, reader, writer),
-        ImageCommand::List { from } => serve_list(alloc, from, reader, writer),
-    }
-}
-
-/// Reports how a service ended, and gives the exit status.
-fn status_of<E: ByteOut>(alloc: Global, served: Result<Ending, ServeFailure>, errors: &mut E) -> u8
-    requires { E.has_failed errors.old ≡ false }
-{
-    match served {
-        Ok(Ending::Done) => DONE,
-        Ok(ending) => match reason_of(alloc, ending) {
-            Ok(text) => report_to(errors, text.as_slice(), REFUSED),
-            Err(_) => REFUSED,
-        },
-        Err(ServeFailure::Read) => report_failure(errors, &FAILURE_LINES, Failure::Read),
-        Err(ServeFailure::Write) => report_failure(errors, &FAILURE_LINES, Failure::Write),
-        Err(ServeFailure::Memory) => report_failure(errors, &FAILURE_LINES, Failure::Memory),
-    }
-}
-
-/// Why a file cannot be read or written, in a line.
-fn file_text(alloc: Global, file: &str, error: io::Error) -> Result<String, AllocError> {
-    let name = shown_text(alloc, file.as_bytes())?;
-    format!(in alloc; "image: {name}: {error}\n")
-}
-
-/// Reports why a file cannot be read or written, and gives the exit status.
-fn report_file<E: ByteOut>(alloc: Global, file: &str, error: io::Error, errors: &mut E) -> u8
-    requires { E.has_failed errors.old ≡ false }
-{
-    match file_text(alloc, file, error) {
-        Ok(text) => report_to(errors, text.as_str().as_bytes(), FAILED),
-        Err(_) => report_failure(errors, &FAILURE_LINES, Failure::Memory),
-    }
-}
-
-/// Writes what was kept to its file where all was done; and else to the writer, so that the file stays as it is. Gives the
-/// exit status.
-fn hand_over<F: Files + AllocGlobal, W: ByteOut, E: ByteOut>(
-    rt: &F,
-    served: Result<Ending, ServeFailure>,
-    kept: &KeptOutput,
-    file: &str,
-    writer: &mut W,
-    errors: &mut E,
-) -> u8
-    requires writer_sound { W.has_failed writer.old ≡ false }
-    requires errors_sound { E.has_failed errors.old ≡ false }
-{
-    let alloc = rt.alloc();
-    match served {
-        Ok(Ending::Done) => match fs::write(rt, file, kept.as_slice()) {
-            Ok(()) => DONE,
-            Err(error) => report_file(alloc, file, error, errors),
-        },
-        Ok(ending) => {
-            if write_all(writer, kept.as_slice()).is_err() {
-                return report_failure(errors, &FAILURE_LINES, Failure::Write);
-            }
-            status_of(alloc, Ok(ending), errors)
-        }
-        // an output that is kept fails for want of memory alone
-        Err(ServeFailure::Write) => status_of(alloc, Err(ServeFailure::Memory), errors),
-        Err(failure) => status_of(alloc, Err(failure), errors),
-    }
-}
-
-/// Carries the command out on what is read, and gives the exit status.
-fn carry_out<F: Files + AllocGlobal, R: ByteIn, W: ByteOut, E: ByteOut>(
-    rt: &F,
-    options: &Options,
-    reader: &mut R,
-    writer: &mut W,
-    errors: &mut E,
-) -> u8
-    requires reader_sound { R.has_failed reader.old ≡ false }
-    requires writer_sound { W.has_failed writer.old ≡ false }
-    requires errors_sound { E.has_failed errors.old ≡ false }
-    requires few { R.reads_left reader.old ≤ 2 ^ 63 }
-{
-    let alloc = rt.alloc();
-    match &options.output {
-        None => {
-            let served = serve(alloc, options.command, reader, writer);
-            status_of(alloc, served, errors)
-        }
-        Some(file) => {
-            let mut kept = KeptOutput::new(alloc);
-            let served = serve(alloc, options.command, reader, &mut kept);
-            hand_over(rt, served, &kept, file.as_str(), writer, errors)
-        }
-    }
-}
-
-/// Carries the command out on a file, and gives the exit status.
-fn carry_out_on<F: Files + AllocGlobal, W: ByteOut, E: ByteOut>(
-    rt: &F,
-    options: &Options,
-    file: &str,
-    writer: &mut W,
-    errors: &mut E,
-) -> u8
-    requires writer_sound { W.has_failed writer.old ≡ false }
-    requires errors_sound { E.has_failed errors.old ≡ false }
-{
-    match fs::open(rt, file) {
-        Ok(opened) => {
-            let mut reader = HostIn::new(opened);
-            carry_out(rt, options, &mut reader, writer, errors)
-        }
-        Err(error) => report_file(rt.alloc(), file, error, errors),
-    }
-}
-
-/// Carries out the command of the arguments, which begin with the program's name, on the file that they name or on the reader,
-/// and gives the exit status. What comes of it goes to the writer, or to the file of `--output` where all was done. What is
-/// wrong with the arguments, the input or a file goes to `errors`; a failure of `errors` changes nothing.
-pub fn program<F: Files + AllocGlobal, S: AsStr, R: ByteIn, W: ByteOut, E: ByteOut>(
-    rt: &F,
-    arguments: &[S],
-    reader: &mut R,
-    writer: &mut W,
-    errors: &mut E,
-) -> u8
-    requires reader_sound { R.has_failed reader.old ≡ false }
-    requires writer_sound { W.has_failed writer.old ≡ false }
-    requires errors_sound { E.has_failed errors.old ≡ false }
-    requires few { R.reads_left reader.old ≤ 2 ^ 63 }
-{
-    let options = match read_arguments(rt.alloc(), arguments) {
-        Ok(options) => options,
-        Err(refusal) => {
-            return refuse_arguments(rt.alloc(), refusal, &FAILURE_LINES, writer, errors);
-        }
+    let served = match command {
+        ImageCommand::Words { from, to } => serve_words(alloc, from, to, reader, kept),
+        ImageCommand::Source { from, shown } => serve_source(alloc, from, shown, reader, kept),
+        ImageCommand::Save { to } => serve_save(alloc, to, reader, kept),
+        ImageCommand::List { from } => serve_list(alloc, from, reader, kept),
     };
-    match &options.input {
-        None => carry_out(rt, &options, reader, writer, errors),
-        Some(file) => carry_out_on(rt, &options, file.as_str(), writer, errors),
+    match served {
+        Ok(ending) => Ok(ending),
+        Err(ServeFailure::Read) => Err(Stop::Failed(Failure::Read)),
+        // an output that is kept fails for want of memory alone
+        Err(ServeFailure::Write | ServeFailure::Memory) => Err(Stop::Failed(Failure::Memory)),
     }
+}
+
+/// Carries a command out on the file that is named, or on standard input, and keeps what comes of it.
+fn serve_input(
+    rt: &HostRuntime,
+    options: &Options<'_>,
+    kept: &mut KeptOutput,
+) -> Result<Ending, Stop>
+    requires { ⟦<KeptOutput as ByteOut>⟧.has_failed kept.old ≡ false }
+{
+    let alloc = rt.alloc();
+    let Some(file) = options.input else {
+        return serve(alloc, options.command, &mut HostIn::new(rt.stdin()), kept);
+    };
+    match fs::open(rt, file) {
+        Ok(opened) => serve(alloc, options.command, &mut HostIn::new(opened), kept),
+        Err(error) => Err(stop_at(alloc, file, error)),
+    }
+}
+
+/// Writes what was kept to the file that is named for the output, or to standard output.
+fn write_kept(rt: &HostRuntime, output: Option<&str>, kept: &[u8]) -> Result<(), Stop> {
+    let Some(file) = output else {
+        return match write_all(&mut HostOut::new(rt.stdout()), kept) {
+            Ok(()) => Ok(()),
+            Err(_) => Err(Stop::Failed(Failure::Write)),
+        };
+    };
+    match fs::write(rt, file, kept) {
+        Ok(()) => Ok(()),
+        Err(error) => Err(stop_at(rt.alloc(), file, error)),
+    }
+}
+
+/// Carries a command out, and writes what comes of it once all of that is there. What is said of an input that is refused goes
+/// to standard output, so that the file of `--output` stays as it is.
+pub fn carry_out(rt: &HostRuntime, options: &Options<'_>) -> Result<Ending, Stop> {
+    let mut kept = KeptOutput::new(rt.alloc());
+    let ending = serve_input(rt, options, &mut kept)?;
+    let output = match ending {
+        Ending::Done => options.output,
+        _ => None,
+    };
+    write_kept(rt, output, kept.as_slice())?;
+    Ok(ending)
 }

@@ -85,7 +85,8 @@ pub fn push_ending(out: &mut Vec<u8>, ending: Ending) -> Result<(), AllocError>
     }
 }
 
-/// Adds what is said of a file that is not what is wanted, by its first fault, and gives how the service ends.
+/// Adds the line on the first fault of a file that is not what is wanted, and gives how the service ends: with that fault, and
+/// the packing that the file could be in.
 pub fn refuse(
     alloc: Global,
     out: &mut Vec<u8>,

@@ -75,8 +75,8 @@ impl TextService for Lister {
     }
 }
 
-/// Serves the words of a core image by rising address, and its start, as `lockmon asm` lists them, and behind each operation
-/// and call of a user's program that is not here, that it is not.
+/// Serves the words of a core image by rising address, and its start, as `lockmon asm` lists them. Behind an operation or a call
+/// of a user's program that this machine lacks it says so.
 pub fn serve_list<R: ByteIn, W: ByteOut>(
     alloc: Global,
     from: Packing,
