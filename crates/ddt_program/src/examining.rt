@@ -2,14 +2,14 @@
 
 use crate::session::Session;
 use ddt_commands::{OutputMode, Refusal};
-use ddt_show::word_line;
+use ddt_show::{refuse, word_line};
 use ddt_timeline::Timeline;
 use word36::Word;
 
 /// `a/` and the like: opens an address of the open job, and shows the word there.
 pub fn open(session: &mut Session, timeline: &Timeline, address: u32) {
     if !session.show_address(timeline, address) {
-        return session.answer.refuse(Refusal::NoWord);
+        return refuse(&mut session.answer, Refusal::NoWord);
     }
     session.here = address;
     session.is_open = true;
@@ -32,11 +32,11 @@ pub fn evaluate(session: &mut Session, value: Word) {
 /// `.EX a-b`: shows the words from the first address to the last.
 pub fn examine(session: &mut Session, timeline: &Timeline, first: u32, last: u32) {
     if last < first {
-        return session.answer.refuse(Refusal::WrongOrder);
+        return refuse(&mut session.answer, Refusal::WrongOrder);
     }
     for address in first..last.saturating_add(1) {
         if !session.show_address(timeline, address) {
-            return session.answer.refuse(Refusal::NoWord);
+            return refuse(&mut session.answer, Refusal::NoWord);
         }
         session.here = address;
     }

@@ -1,8 +1,7 @@
 //! The lines of a file that is obeyed.
 
 use ddt_moves::line_from;
-use ddt_show::AnswerText;
-use program_shell::NextLine;
+use program_shell::{NextLine, PendingText};
 use script_io::LINE_LENGTH;
 use shown_bytes::shown_lines;
 use std::alloc::{AllocError, Global};
@@ -49,7 +48,7 @@ impl FileLines {
     pub fn next_line(
         &mut self,
         line: &mut Vec<u8>,
-        answer: &mut AnswerText,
+        answer: &mut PendingText,
     ) -> Result<NextLine, AllocError> {
         line.clear();
         let Some((next, behind)) = line_from(self.text.as_slice(), self.next) else {

@@ -1,15 +1,14 @@
 //! Files that are read and written.
 
 use crate::host::Host;
-use ddt_show::AnswerText;
-use program_shell::file_error_text;
+use program_shell::{PendingText, file_error_text};
 
 /// The bytes of a file; `None` where it cannot be read, and a line that begins with `head` reports why.
 pub fn read_file<H: Host>(
     host: &H,
     head: &str,
     file: &str,
-    report: &mut AnswerText,
+    report: &mut PendingText,
 ) -> Option<Vec<u8>> {
     match host.read_file(file) {
         Ok(text) => Some(text),
@@ -26,7 +25,7 @@ pub fn write_file<H: Host>(
     head: &str,
     file: &str,
     bytes: &[u8],
-    report: &mut AnswerText,
+    report: &mut PendingText,
 ) {
     if let Err(error) = host.write_file(file, bytes) {
         report.say_made(file_error_text(report.alloc, head, file, error));

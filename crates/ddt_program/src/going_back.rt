@@ -4,6 +4,7 @@ use crate::run_ends::say_turn;
 use crate::session::Session;
 use ddt_commands::Refusal;
 use ddt_moves::{last_at, last_write, turn_at};
+use ddt_show::refuse;
 use ddt_timeline::Timeline;
 use word36::Address;
 
@@ -14,7 +15,7 @@ fn put_back(session: &mut Session, timeline: &mut Timeline, steps: u64) {
         Ok(true) => session.show_next(timeline),
         Ok(false) => {
             let made = timeline.steps();
-            session.answer.refuse(Refusal::FewSteps(made));
+            refuse(&mut session.answer, Refusal::FewSteps(made));
         }
         Err(_) => session.answer.fail(),
     }
@@ -24,19 +25,19 @@ fn put_back(session: &mut Session, timeline: &mut Timeline, steps: u64) {
 pub fn back(session: &mut Session, timeline: &mut Timeline, steps: u64) {
     let made = timeline.steps();
     if steps > made {
-        return session.answer.refuse(Refusal::FewSteps(made));
+        return refuse(&mut session.answer, Refusal::FewSteps(made));
     }
     put_back(session, timeline, made - steps);
 }
 
-/// `.BACK TO a`: goes back to before the last step before which the open job stood at an address.
+/// `.BACK TO a`: goes back to where the open job last stood at an address.
 pub fn back_to(session: &mut Session, timeline: &mut Timeline, address: u32) {
     let Some(address) = Address::try_new(address) else {
-        return session.answer.refuse(Refusal::NeverThere);
+        return refuse(&mut session.answer, Refusal::NeverThere);
     };
     match last_at(timeline, session.open, address) {
         Ok(Some(steps)) => put_back(session, timeline, steps),
-        Ok(None) => session.answer.refuse(Refusal::NeverThere),
+        Ok(None) => refuse(&mut session.answer, Refusal::NeverThere),
         Err(_) => session.answer.fail(),
     }
 }
@@ -46,7 +47,7 @@ pub fn back_to(session: &mut Session, timeline: &mut Timeline, address: u32) {
 pub fn back_to_write(session: &mut Session, timeline: &mut Timeline, address: u32) {
     let steps = match last_write(timeline, session.open, address) {
         Ok(Some(steps)) => steps,
-        Ok(None) => return session.answer.refuse(Refusal::NeverWritten),
+        Ok(None) => return refuse(&mut session.answer, Refusal::NeverWritten),
         Err(_) => return session.answer.fail(),
     };
     match turn_at(timeline, steps) {

@@ -3,12 +3,13 @@
 use crate::session::Session;
 use ddt_commands::{OutputMode, Refusal};
 use ddt_moves::{Replay, last_turns, next_instruction};
-use ddt_show::{AnswerText, ShownJob, address_line};
+use ddt_show::{ShownJob, address_line, refuse};
 use ddt_timeline::Timeline;
+use program_shell::PendingText;
 use std::alloc::Global;
 
 /// Adds a line on each turn of a job in the steps of a replay that are still to be made: the PC before it, and the instruction.
-fn say_turns(alloc: Global, replay: &mut Replay<'_>, job: &ShownJob, answer: &mut AnswerText) {
+fn say_turns(alloc: Global, replay: &mut Replay<'_>, job: &ShownJob, answer: &mut PendingText) {
     for _ in 0..u64::MAX {
         if !replay.go_before_step() {
             return;
@@ -45,7 +46,7 @@ pub fn show_history(session: &mut Session, timeline: &Timeline, most: u32) {
     match last_turns(timeline, session.open, most as usize) {
         Ok(turns) => match turns.first() {
             Some(first) => say_turns_from(session, timeline, first),
-            None => session.answer.refuse(Refusal::NoTurns),
+            None => refuse(&mut session.answer, Refusal::NoTurns),
         },
         Err(_) => session.answer.fail(),
     }

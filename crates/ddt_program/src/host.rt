@@ -1,7 +1,6 @@
 //! What a session asks of the world around it.
 
-use ddt_show::AnswerText;
-use program_shell::{Failure, NextLine};
+use program_shell::{Failure, NextLine, PendingText};
 use script_io::Failed;
 use shown_bytes::shown_lines;
 use std::io;
@@ -34,24 +33,23 @@ pub trait Host {
 }
 
 /// Writes an answer, and empties it. Nothing is written where there was no memory for all of it, which is a failure.
-pub fn write_answer<H: Host>(host: &mut H, answer: &mut AnswerText) -> Result<(), Failure> {
-    let Some(bytes) = answer.bytes() else {
+pub fn write_answer<H: Host>(host: &mut H, answer: &mut PendingText) -> Result<(), Failure> {
+    if !answer.is_whole() {
         return Err(Failure::Memory);
-    };
-    if host.write(Stream::Answers, bytes).is_err() {
+    }
+    if host.write(Stream::Answers, answer.as_bytes()).is_err() {
         return Err(Failure::Write);
     }
-    answer.clear();
-    Ok(())
+    answer.restart()
 }
 
 /// Writes what is reported before the first line to the errors, as lines for a person are shown, and empties it. Nothing is
 /// written where there is no memory for all of it, which is a failure.
-pub fn write_report<H: Host>(host: &mut H, report: &mut AnswerText) -> Result<(), Failure> {
-    let Some(bytes) = report.bytes() else {
+pub fn write_report<H: Host>(host: &mut H, report: &mut PendingText) -> Result<(), Failure> {
+    if !report.is_whole() {
         return Err(Failure::Memory);
-    };
-    let Ok(text) = shown_lines(report.alloc, bytes) else {
+    }
+    let Ok(text) = shown_lines(report.alloc, report.as_bytes()) else {
         return Err(Failure::Memory);
     };
     if host
@@ -60,6 +58,5 @@ pub fn write_report<H: Host>(host: &mut H, report: &mut AnswerText) -> Result<()
     {
         return Err(Failure::Write);
     }
-    report.clear();
-    Ok(())
+    report.restart()
 }

@@ -1,18 +1,19 @@
 //! Sources that are assembled, core images that are loaded, and the jobs that are logged in for them.
 
 use crate::session::{Session, SessionJob};
-use ddt_show::{AnswerText, ShownJob};
+use ddt_show::ShownJob;
 use ddt_timeline::{Entry, Timeline};
 use image_files::Packing;
 use monitor::{Answer, RefusedEvent};
 use program_files::read_program;
+use program_shell::PendingText;
 use shown_bytes::push_shown;
 use source_labels::{Assembled, MOST_REPORTED, Program, Source, warnings_of};
 
 /// Gives the programs of all files, sources and core images whose words are packed so, and reports what is wrong with them,
 /// and warnings; `None` where something is wrong.
 fn assemble_all<'a>(
-    report: &mut AnswerText,
+    report: &mut PendingText,
     sources: &[Source<'a>],
     from: Packing,
 ) -> Option<Vec<Program<'a>>> {
@@ -48,7 +49,7 @@ fn add_job(session: &mut Session, file: &str, shown: ShownJob) {
 }
 
 /// Reports why a program is not logged in, by the answer of the machine.
-fn report_refusal(report: &mut AnswerText, file: &str, answer: &Answer) {
+fn report_refusal(report: &mut PendingText, file: &str, answer: &Answer) {
     report.say(file);
     report.say(match answer {
         Answer::Refused(RefusedEvent::NoCore) => ": it takes more blocks of core than are free\n",

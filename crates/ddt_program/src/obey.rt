@@ -13,8 +13,9 @@ use crate::stop_commands::{
 };
 use crate::tables::{open_job, show_jobs, show_locks, show_registers, show_waits};
 use ddt_commands::{Command, LineError, read_line};
-use ddt_show::{AnswerText, add_help, next_address, previous_address};
+use ddt_show::{add_help, next_address, previous_address};
 use ddt_timeline::{Entry, Timeline};
+use program_shell::PendingText;
 use std::str;
 
 /// What a line leaves to the host, beside writing its answer.
@@ -55,7 +56,7 @@ pub fn obey_line<'a>(
 }
 
 /// Reports what is wrong with a line.
-fn report_error(answer: &mut AnswerText, error: LineError) {
+fn report_error(answer: &mut PendingText, error: LineError) {
     let alloc = answer.alloc;
     answer.say_made(format!(in alloc; "{error}\n"));
 }
@@ -81,7 +82,7 @@ fn action_of<'a>(session: &mut Session, command: &Command<'a>) -> HostAction<'a>
 }
 
 /// The name of a file as text; `None`, which is reported, where it is no text.
-fn name_in<'a>(answer: &mut AnswerText, file: &'a [u8]) -> Option<&'a str> {
+fn name_in<'a>(answer: &mut PendingText, file: &'a [u8]) -> Option<&'a str> {
     let name = str::from_utf8(file).ok();
     if name.is_none() {
         answer.say("? : the name of a file is no text\n");
@@ -181,7 +182,7 @@ fn obey_look(session: &mut Session, timeline: &Timeline, command: &Command<'_>) 
 }
 
 /// `.HELP` and `.HELP word`: lists all commands, or those in which the word stands.
-fn help(answer: &mut AnswerText, word: &[u8]) {
+fn help(answer: &mut PendingText, word: &[u8]) {
     if !add_help(answer, word) {
         report_error(answer, LineError::NoCommand);
     }

@@ -10,9 +10,10 @@ use crate::options::read_arguments;
 use crate::session::Session;
 use crate::texts;
 use ddt_moves::InputLines;
-use ddt_show::AnswerText;
 use ddt_timeline::Timeline;
-use program_shell::{Answers, DONE, FAILED, Failure, REFUSED, Refusal, USAGE, refusal_text};
+use program_shell::{
+    Answers, DONE, FAILED, Failure, PendingText, REFUSED, Refusal, USAGE, refusal_text,
+};
 use script_io::ByteOut;
 use source_labels::Source;
 use std::alloc::{AllocError, Global};
@@ -25,7 +26,7 @@ const ERROR_HEAD: &str = "ddt: ";
 fn read_sources<'a, H: Host>(
     host: &H,
     files: &[&'a str],
-    report: &mut AnswerText,
+    report: &mut PendingText,
     sources: &mut Vec<Source<'a>>,
 ) -> bool {
     for file in files {

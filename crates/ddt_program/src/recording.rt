@@ -3,10 +3,11 @@
 use crate::session::{Session, SessionJob};
 use ddt_commands::Refusal;
 use ddt_moves::is_edited;
-use ddt_show::AnswerText;
+use ddt_show::refuse;
 use ddt_timeline::{Timeline, push_past};
 use machine::Config;
 use program_files::is_image_name;
+use program_shell::PendingText;
 use run_record::{push_end, push_head, push_program, unquotable_line};
 use source_labels::Source;
 use std::alloc::{AllocError, Global};
@@ -17,7 +18,7 @@ pub struct ScriptHead {
     /// A remark with the command that obeys the script, and the sources.
     text: Vec<u8>,
     /// Why some of the sources cannot stand in a script, a line each.
-    refusals: AnswerText,
+    refusals: PendingText,
 }
 
 impl ScriptHead {
@@ -25,7 +26,7 @@ impl ScriptHead {
     pub fn new(alloc: Global) -> Self {
         ScriptHead {
             text: Vec::new(alloc),
-            refusals: AnswerText::new(alloc),
+            refusals: PendingText::new(alloc),
         }
     }
 
@@ -88,15 +89,17 @@ fn make_script(
 pub fn record(session: &mut Session, timeline: &Timeline) {
     session.script.clear();
     let head = &session.head;
-    match head.refusals.bytes() {
-        Some([]) => {}
-        Some(refusals) => return session.answer.add(refusals),
-        None => return session.answer.fail(),
+    if !head.refusals.is_whole() {
+        return session.answer.fail();
+    }
+    let refusals = head.refusals.as_bytes();
+    if !refusals.is_empty() {
+        return session.answer.add(refusals);
     }
     match make_script(&mut session.script, head.text.as_slice(), timeline) {
         Ok(true) => return,
-        Ok(false) if is_edited(timeline) => session.answer.refuse(Refusal::Deposited),
-        Ok(false) => session.answer.refuse(Refusal::StartedAt),
+        Ok(false) if is_edited(timeline) => refuse(&mut session.answer, Refusal::Deposited),
+        Ok(false) => refuse(&mut session.answer, Refusal::StartedAt),
         Err(_) => session.answer.fail(),
     }
     session.script.clear();

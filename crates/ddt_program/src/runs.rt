@@ -6,6 +6,7 @@ use ddt_commands::Refusal;
 use ddt_moves::{
     Cause, RunEnd, RunStops, begin, cause_at_start, go_on, is_stopped, run_to, start_jobs, stops_of,
 };
+use ddt_show::refuse;
 use ddt_timeline::{Stop, Timeline, some_go_on};
 use std::alloc::AllocError;
 use word36::Word;
@@ -90,7 +91,7 @@ pub fn go(session: &mut Session, timeline: &mut Timeline) {
             session.input.forget(happened);
             run_from_start(session, timeline);
         }
-        Ok(false) => session.answer.refuse(Refusal::NotStopped),
+        Ok(false) => refuse(&mut session.answer, Refusal::NotStopped),
         Err(_) => session.answer.fail(),
     }
 }

@@ -3,6 +3,7 @@
 use crate::session::Session;
 use concrete_machine::Machine;
 use ddt_commands::{Refusal, Search, SearchKind};
+use ddt_show::refuse;
 use ddt_timeline::Timeline;
 use run_notes::effective_address;
 use word36::{BLOCK_WORDS, Word};
@@ -39,6 +40,6 @@ pub fn search(session: &mut Session, timeline: &Timeline, search: &Search) {
         }
     }
     if !is_any {
-        session.answer.refuse(Refusal::NotFound);
+        refuse(&mut session.answer, Refusal::NotFound);
     }
 }

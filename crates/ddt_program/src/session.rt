@@ -4,9 +4,10 @@ use crate::file_lines::FileLines;
 use crate::recording::ScriptHead;
 use ddt_commands::{OutputMode, Scope, Symbol};
 use ddt_moves::{InputLines, StopList, ended_at};
-use ddt_show::{AnswerText, ShownJob, address_line, address_text, job_line};
+use ddt_show::{ShownJob, address_line, address_text, job_line};
 use ddt_timeline::Timeline;
 use job_sched::Wait;
+use program_shell::PendingText;
 use std::alloc::{AllocError, Global};
 use word36::{JOBS, Word};
 
@@ -58,7 +59,7 @@ pub struct Session {
     /// The lines that are typed where a job waits for characters.
     pub input: InputLines,
     /// The answer that is not written yet.
-    pub answer: AnswerText,
+    pub answer: PendingText,
     /// The lines that were obeyed, with their ends.
     pub kept: Vec<u8>,
     /// The lines of the file that is obeyed.
@@ -83,7 +84,7 @@ impl Session {
             list: StopList::new(),
             grants: String::new(alloc),
             input: InputLines::none(alloc),
-            answer: AnswerText::new(alloc),
+            answer: PendingText::new(alloc),
             kept: Vec::new(alloc),
             file_lines: FileLines::none(alloc),
             head: ScriptHead::new(alloc),

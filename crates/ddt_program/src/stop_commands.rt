@@ -4,6 +4,7 @@ use crate::session::Session;
 use ddt_breakpoints::{BREAKPOINTS, Condition};
 use ddt_commands::{NewBreakpoint, Refusal};
 use ddt_moves::{Breakpoint, WatchedWord};
+use ddt_show::refuse;
 use ddt_timeline::Timeline;
 use lock_queue::Name;
 use queue_script::CallRoom;
@@ -24,10 +25,10 @@ fn has_word(session: &Session, timeline: &Timeline, condition: Option<Condition>
 /// `a$B` and `a$nB`: sets a breakpoint of the open job.
 pub fn set(session: &mut Session, timeline: &Timeline, wanted: &NewBreakpoint) {
     let Some(address) = Address::try_new(wanted.address) else {
-        return session.answer.refuse(Refusal::NoWord);
+        return refuse(&mut session.answer, Refusal::NoWord);
     };
     if !has_word(session, timeline, wanted.condition) {
-        return session.answer.refuse(Refusal::NoWord);
+        return refuse(&mut session.answer, Refusal::NoWord);
     }
     let breakpoint = Breakpoint {
         job: session.open,
@@ -37,14 +38,14 @@ pub fn set(session: &mut Session, timeline: &Timeline, wanted: &NewBreakpoint) {
     };
     match session.list.set(&breakpoint, wanted.number) {
         Some(number) => show_breakpoint(session, number, &breakpoint),
-        None => session.answer.refuse(Refusal::NoBreakpointFree),
+        None => refuse(&mut session.answer, Refusal::NoBreakpointFree),
     }
 }
 
 /// `0$nB`: clears a breakpoint.
 pub fn unset(session: &mut Session, number: u8) {
     if !session.list.unset(number) {
-        session.answer.refuse(Refusal::NotSet);
+        refuse(&mut session.answer, Refusal::NotSet);
     }
 }
 
@@ -122,12 +123,12 @@ pub fn show_stops(session: &mut Session) {
 pub fn watch(session: &mut Session, timeline: &Timeline, address: u32) {
     let job = session.open;
     if timeline.machine().peek(job, address).is_none() {
-        return session.answer.refuse(Refusal::NoWord);
+        return refuse(&mut session.answer, Refusal::NoWord);
     }
     let word = WatchedWord { job, address };
     match session.list.watch(word) {
         Some(is_watched) => show_watched(session, word, is_watched),
-        None => session.answer.refuse(Refusal::NoWatchFree),
+        None => refuse(&mut session.answer, Refusal::NoWatchFree),
     }
 }
 
@@ -166,7 +167,7 @@ fn lock_name(job: u8, text: &[u8]) -> Option<Name> {
 /// `.BREAK LOCK name`: stops runs before calls on a lock, or no longer where they do.
 pub fn stop_at_lock(session: &mut Session, text: &[u8]) {
     let Some(name) = lock_name(session.open, text) else {
-        return session.answer.refuse(Refusal::NoLock);
+        return refuse(&mut session.answer, Refusal::NoLock);
     };
     match &session.list.lock {
         Some(lock) if lock.is_same(&name) => {

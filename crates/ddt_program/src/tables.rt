@@ -3,14 +3,15 @@
 use crate::session::Session;
 use ddt_commands::Refusal;
 use ddt_moves::is_edited;
-use ddt_show::{AnswerText, lock_lines, register_lines, wait_lines};
+use ddt_show::{lock_lines, refuse, register_lines, wait_lines};
 use ddt_timeline::Timeline;
+use program_shell::PendingText;
 use std::alloc::AllocError;
 
 /// `.JOB n`: opens a job, and shows how it stands.
 pub fn open_job(session: &mut Session, timeline: &Timeline, number: u8) {
     if usize::from(number) > session.jobs.len() || number == 0 {
-        return session.answer.refuse(Refusal::NoJob);
+        return refuse(&mut session.answer, Refusal::NoJob);
     }
     session.open = number;
     session.is_open = false;
@@ -30,7 +31,7 @@ pub fn show_jobs(session: &mut Session, timeline: &Timeline) {
 }
 
 /// Adds lines that were made just now, or a text in place of none.
-fn say_lines(answer: &mut AnswerText, made: Result<Vec<u8>, AllocError>, none: &str) {
+fn say_lines(answer: &mut PendingText, made: Result<Vec<u8>, AllocError>, none: &str) {
     let Ok(lines) = made else {
         return answer.fail();
     };
@@ -42,13 +43,13 @@ fn say_lines(answer: &mut AnswerText, made: Result<Vec<u8>, AllocError>, none: &
 }
 
 /// `.LOCKS`: shows the requests for locks.
-pub fn show_locks(answer: &mut AnswerText, timeline: &Timeline) {
+pub fn show_locks(answer: &mut PendingText, timeline: &Timeline) {
     let lines = lock_lines(answer.alloc, timeline.machine());
     say_lines(answer, lines, "no requests\n");
 }
 
 /// `.WAITS`: shows who waits for whom.
-pub fn show_waits(answer: &mut AnswerText, timeline: &Timeline) {
+pub fn show_waits(answer: &mut PendingText, timeline: &Timeline) {
     let lines = wait_lines(answer.alloc, timeline.machine());
     say_lines(answer, lines, "no job waits for another\n");
 }

@@ -1,6 +1,6 @@
 //! The help.
 
-use crate::answer_text::AnswerText;
+use program_shell::PendingText;
 
 /// A line on each command, which stands in the first 16 characters.
 static COMMANDS: [&str; 42] = [
@@ -66,7 +66,7 @@ fn is_on(line: &str, word: &[u8]) -> bool {
 
 /// Adds a line on each command in which a word stands, in upper or lower case, and on each command for an empty word; false
 /// where there is none.
-pub fn add_help(answer: &mut AnswerText, word: &[u8]) -> bool {
+pub fn add_help(answer: &mut PendingText, word: &[u8]) -> bool {
     let mut is_any = false;
     for line in &COMMANDS {
         if is_on(line, word) {
