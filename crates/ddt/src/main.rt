@@ -5,17 +5,10 @@ mod terminal;
 
 use crate::terminal::Terminal;
 use ddt_program::{ddt, not_begun};
-use program_shell::{Answers, LineReader};
+use program_shell::{Answers, LineReader, arguments_of};
 use script_io::{HostIn, HostOut};
-use std::env;
-use std::io::{self, ErrorKind, IsTerminal};
+use std::io::{ErrorKind, IsTerminal};
 use std::process::ExitCode;
-
-/// The arguments of the command line, which begin with the program's name.
-fn arguments_of(rt: &HostRuntime) -> io::Result<Vec<String>> {
-    let arguments = env::args(rt)?.collect::<Vec<String>>(rt.alloc())?;
-    Ok(arguments)
-}
 
 fn main(rt: HostRuntime) -> ExitCode {
     let alloc = rt.alloc();
