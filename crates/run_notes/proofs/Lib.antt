@@ -1,1 +1,2 @@
 mod FollowLemmas
+mod WordLemmas

@@ -1,10 +1,11 @@
 //! Lock calls, reported as they are made.
 
-ghost use Rattle.std.specs.Prelude.{◌≡◌, IfSome};
+ghost use Rattle.std.specs.Prelude.{◌≡◌, ◌++◌, IfSome, OnOk, string_bytes};
 ghost use Rattle.lock_queue.specs.Refusals.{code_of};
+ghost use Rattle.run_notes.specs.Words.{wants_words};
 
 use crate::block_words::core_for_block;
-use crate::locks::LockText;
+use crate::locks::push_lock;
 use crate::snapshot::Snapshot;
 use call_block::{Block, read_block};
 use concrete_machine::Machine;
@@ -290,18 +291,22 @@ fn push_statuses(
 ) -> Result<(), AllocError> {
     for want in wants {
         let status = machine.status(&want.key, number);
-        let lock = LockText { want };
         let (owners, waiters) = (status.owner_count, status.waiter_count);
-        write!(text, ", {lock} (owners {owners}, waiters {waiters})")?;
+        text.push_str(", ")?;
+        push_lock(text, want)?;
+        write!(text, " (owners {owners}, waiters {waiters})")?;
     }
     Ok(())
 }
 
 /// Adds the locks of these wants.
-pub fn push_wants(text: &mut String, wants: &[Want]) -> Result<(), AllocError> {
+#[tactic(auto, using(std::proofs::Common::append_assoc))]
+pub fn push_wants(text: &mut String, wants: &[Want]) -> Result<(), AllocError>
+    ensures { OnOk result (string_bytes text.new ≡ string_bytes text.old ++ wants_words wants.now) }
+{
     for want in wants {
-        let lock = LockText { want };
-        write!(text, ", {lock}")?;
+        text.push_str(", ")?;
+        push_lock(text, want)?;
     }
     Ok(())
 }

@@ -1,11 +1,14 @@
 //! Circles of waits, in words.
-ghost use Rattle.std.specs.Prelude.{◌≡◌, ◌≤◌, None, Some, false, slice_get, IfOk, IfSome};
-ghost use Rattle.std.specs.List.{list_any};
+ghost use Rattle.std.specs.Prelude.{◌≡◌, ◌<◌, ◌≤◌, ◌++◌, ℕ, List, None, Some, false, length, nat_lt, IfOk, IfSome, OnOk};
+ghost use Rattle.std.specs.Prelude.{slice_get, slice_index_or, string_bytes};
+ghost use Rattle.std.specs.List.{IsFirstBest, list_any};
 ghost use Rattle.lock_queue.specs.Jobs.{waits_for};
 ghost use Rattle.lock_queue.specs.Waits.{is_in_circle, jobs};
+ghost use Rattle.run_notes.specs.Words.{AreJobTexts, IsCircleLine, IsCircleText, IsFromLeast};
+ghost use Rattle.run_notes.specs.Words.{circle_words, first_or, had_words, job_words, waited_words};
 ghost use Rattle.word36.specs.declared.sizes.TheConstants.{JOBS};
 
-use crate::locks::NameText;
+use crate::locks::push_name;
 use concrete_machine::Machine;
 use lock_queue::Request;
 use std::alloc::{AllocError, Global};
@@ -45,80 +48,138 @@ pub fn has_circle(machine: &Machine) -> bool
 
 /// Adds which lock a job of a circle has that the job before it waits for: `has A`, or `is in front for A` where it
 /// does not own the lock.
-fn push_has(text: &mut String, between: Option<LockBetween<'_>>) -> Result<(), AllocError> {
+#[tactic(auto, using(std::proofs::Common::append_assoc))]
+fn push_has(text: &mut String, between: Option<LockBetween<'_>>) -> Result<(), AllocError>
+    ensures { OnOk result (string_bytes text.new ≡ string_bytes text.old ++ had_words between.entry) }
+{
     let Some(between) = between else {
         return text.push_str("is in front");
     };
-    let name = NameText {
-        key: &between.want.key,
-    };
     let has = if between.is_held {
-        "has"
+        "has "
     } else {
-        "is in front for"
+        "is in front for "
     };
-    write!(text, "{has} {name}")
+    text.push_str(has)?;
+    push_name(text, &between.want.key.name)
 }
 
 /// Adds which lock a job of a circle waits for, which the next job has.
-fn push_waits(text: &mut String, between: Option<LockBetween<'_>>) -> Result<(), AllocError> {
+#[tactic(auto, using(std::proofs::Common::append_assoc))]
+fn push_waits(text: &mut String, between: Option<LockBetween<'_>>) -> Result<(), AllocError>
+    ensures { OnOk result (string_bytes text.new ≡ string_bytes text.old ++ waited_words between.entry) }
+{
     match between {
         Some(between) => {
-            let name = NameText {
-                key: &between.want.key,
-            };
-            write!(text, "waits for {name}")
+            text.push_str("waits for ")?;
+            push_name(text, &between.want.key.name)
         }
         None => text.push_str("waits for a lock"),
     }
 }
 
-/// Adds a job of a circle, which stands between `before`, which waits for it, and `next`, for which it waits: ` job 1
-/// (has A, waits for B)`.
+/// Adds a job of a circle, by the lock that it has, from which it keeps the job before it, and the one that it waits for:
+/// ` job 1 (has A, waits for B)`.
+#[tactic(auto, using(std::proofs::Common::append_assoc))]
 fn push_job(
     text: &mut String,
-    requests: &[Request],
-    before: u8,
     job: u8,
-    next: u8,
-) -> Result<(), AllocError> {
-    write!(text, " job {job} (")
-        .and(push_has(text, lock_between(requests, before, job)))
-        .and(text.push_str(", "))
-        .and(push_waits(text, lock_between(requests, job, next)))
-        .and(text.push_str(")"))
+    had: Option<LockBetween<'_>>,
+    waited: Option<LockBetween<'_>>,
+) -> Result<(), AllocError>
+    ensures { OnOk result (string_bytes text.new ≡ string_bytes text.old ++ job_words job (had_words had.entry) (waited_words waited.entry)) }
+{
+    write!(text, " job {job} (")?;
+    push_has(text, had)?;
+    text.push_str(", ")?;
+    push_waits(text, waited)?;
+    text.push_str(")")
 }
 
-/// The job at a position of a circle. Behind the last position comes the first.
-fn at(circle: &[u8], position: usize) -> u8 {
-    let position = position.checked_rem(circle.len()).unwrap_or(0);
+/// The job at a position of a circle; 0 where there is none.
+fn at(circle: &[u8], position: usize) -> u8
+    ensures { result ≡ slice_index_or circle.now position 0 }
+{
     circle.get(position).copied().unwrap_or(0)
 }
 
 /// The position of the job with the least number.
-fn least_position(circle: &[u8]) -> usize {
+fn least_position(circle: &[u8]) -> usize
+    requires { 0 < length circle.now }
+    ensures { IsFirstBest nat_lt circle.now (length circle.now) result }
+{
     let mut least = 0;
-    for (position, job) in circle.iter().enumerate() {
-        if *job < at(circle, least) {
-            least = position;
+    for i in 1..circle.len() {
+        if circle[i] < circle[least] {
+            least = i;
         }
     }
     least
 }
 
-/// Adds the jobs of a circle, from the one with the least number on.
-fn push_jobs(text: &mut String, requests: &[Request], circle: &[u8]) -> Result<(), AllocError> {
-    let first = least_position(circle);
-    let mut before = at(circle, first.saturating_add(circle.len()).saturating_sub(1));
-    for step in 0..circle.len() {
-        let job = at(circle, first.saturating_add(step));
-        let next = at(circle, first.saturating_add(step).saturating_add(1));
-        let comma = if step == 0 { "" } else { "," };
-        text.push_str(comma)
-            .and(push_job(text, requests, before, job, next))?;
-        before = job;
+/// The jobs of a circle, from the one with the least number on.
+fn from_least(alloc: Global, circle: &[u8]) -> Result<Vec<u8>, AllocError>
+    ensures { IfOk result (λ jobs. IsFromLeast circle.now jobs.items) }
+{
+    let least = if circle.is_empty() {
+        0
+    } else {
+        least_position(circle)
+    };
+    let mut jobs = Vec::new(alloc);
+    jobs.extend_from_slice(&circle[least..])?;
+    jobs.extend_from_slice(&circle[..least])?;
+    Ok(jobs)
+}
+
+/// The first of some jobs, or another one where there is none.
+fn first_or(jobs: &[u8], other: u8) -> u8
+    ensures { result ≡ first_or other jobs.now }
+{
+    match jobs {
+        [] => other,
+        [job, ..] => *job,
     }
-    Ok(())
+}
+
+/// Adds some jobs of a circle, one after the other, which stand between `before` and `after`; `comma` stands before the first.
+fn push_jobs(
+    text: &mut String,
+    requests: &[Request],
+    before: u8,
+    jobs: &[u8],
+    after: u8,
+    comma: &str,
+) -> Result<(), AllocError>
+    ensures { OnOk result ((words : List ℕ) × (string_bytes text.new ≡ string_bytes text.old ++ words)
+        × AreJobTexts requests.now before jobs.now after comma.now words) }
+{
+    match jobs {
+        [] => Ok(()),
+        [job, later @ ..] => {
+            let had = lock_between(requests, before, *job);
+            let waited = lock_between(requests, *job, first_or(later, after));
+            text.push_str(comma)?;
+            push_job(text, *job, had, waited)?;
+            push_jobs(text, requests, *job, later, after, ",")
+        }
+    }
+}
+
+/// Adds the line on a circle, from its first job on.
+fn push_circle(
+    text: &mut String,
+    tick: u64,
+    requests: &[Request],
+    jobs: &[u8],
+) -> Result<(), AllocError>
+    ensures { OnOk result ((words : List ℕ) × (string_bytes text.new ≡ string_bytes text.old ++ circle_words tick words)
+        × IsCircleText requests.now jobs.now words) }
+{
+    let last = at(jobs, jobs.len().saturating_sub(1));
+    write!(text, "tick {tick}: circle:")?;
+    push_jobs(text, requests, last, jobs, first_or(jobs, 0), "")?;
+    text.push_str("\n")
 }
 
 /// The line on a circle, from its least job on: `tick 94: circle: job 1 (has A, waits for B), job 2 (has B, waits for
@@ -128,11 +189,12 @@ pub fn circle_line(
     tick: u64,
     machine: &Machine,
     circle: &[u8],
-) -> Result<String, AllocError> {
+) -> Result<String, AllocError>
+    ensures { IfOk result (λ text. IsCircleLine tick machine.now.world.requests circle.now (string_bytes text)) }
+{
     let requests = machine.requests(alloc)?;
+    let jobs = from_least(alloc, circle)?;
     let mut text = String::new(alloc);
-    write!(text, "tick {tick}: circle:")
-        .and(push_jobs(&mut text, requests.as_slice(), circle))
-        .and(text.push_str("\n"))
-        .and(Ok(text))
+    push_circle(&mut text, tick, requests.as_slice(), jobs.as_slice())?;
+    Ok(text)
 }

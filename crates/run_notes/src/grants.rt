@@ -1,9 +1,9 @@
 //! Grants and ended time limits, reported as they come.
-ghost use Rattle.std.specs.Prelude.{◌≡◌, IfOk, string_bytes};
+ghost use Rattle.std.specs.Prelude.{◌≡◌, ◌++◌, IfOk, OnOk, string_bytes};
 ghost use Rattle.run_facts.specs.Grants.{waiting_id};
-ghost use Rattle.run_notes.specs.Words.{limit_words};
+ghost use Rattle.run_notes.specs.Words.{grant_words, grants_words, limit_words};
 
-use crate::calls::{IdText, push_wants};
+use crate::calls::push_wants;
 use lock_queue::Request;
 use run_facts::{is_new_grant, waiting_id};
 use std::alloc::{AllocError, Global};
@@ -31,11 +31,31 @@ pub fn limit_line(
 }
 
 /// Adds the line on a request that is granted.
-fn push_grant(text: &mut String, tick: u64, request: &Request) -> Result<(), AllocError> {
-    let (job, id) = (request.job, IdText(request.id.number()));
-    write!(text, "tick {tick}, job {job}: granted request {id}")
-        .and(push_wants(text, request.wants.as_slice()))
-        .and(text.push_str("\n"))
+#[tactic(auto, using(std::proofs::Common::append_assoc))]
+fn push_grant(text: &mut String, tick: u64, request: &Request) -> Result<(), AllocError>
+    ensures { OnOk result (string_bytes text.new ≡ string_bytes text.old ++ grant_words tick request.now) }
+{
+    let (job, id) = (request.job, request.id.number());
+    write!(text, "tick {tick}, job {job}: granted request {id}.")?;
+    push_wants(text, request.wants.as_slice())?;
+    text.push_str("\n")
+}
+
+/// Adds a line on each request that is granted now and was not before.
+fn push_grants(
+    text: &mut String,
+    tick: u64,
+    before: &[Request],
+    requests: &[Request],
+) -> Result<(), AllocError>
+    ensures { OnOk result (string_bytes text.new ≡ string_bytes text.old ++ grants_words tick before.now requests.now) }
+{
+    for (position, request) in requests.iter().enumerate() {
+        if is_new_grant(before, requests, position) {
+            push_grant(text, tick, request)?;
+        }
+    }
+    Ok(())
 }
 
 /// A line on each request that is granted now and was not before.
@@ -44,13 +64,10 @@ pub fn grant_lines(
     tick: u64,
     before: &[Request],
     requests: &[Request],
-) -> Result<String, AllocError> {
+) -> Result<String, AllocError>
+    ensures { IfOk result (λ text. string_bytes text ≡ grants_words tick before.now requests.now) }
+{
     let mut text = String::new(alloc);
-    let mut added = Ok(());
-    for (position, request) in requests.iter().enumerate() {
-        if is_new_grant(before, requests, position) {
-            added = added.and(push_grant(&mut text, tick, request));
-        }
-    }
-    added.and(Ok(text))
+    push_grants(&mut text, tick, before, requests)?;
+    Ok(text)
 }

@@ -1,7 +1,7 @@
 //! How long requests wait for their grants, and a table of that by lock. Times are in ticks.
 
 use crate::calls::push_wants;
-use crate::locks::NameText;
+use crate::locks::push_name;
 use crate::wait_lines::lock_wait_text;
 use concrete_machine::Machine;
 use lock_queue::{EnqueueKind, Key, Request};
@@ -94,9 +94,8 @@ impl LockRow {
 
     /// Adds its line of the table.
     fn push_line(&self, text: &mut String) -> Result<(), AllocError> {
-        let name = NameText { key: &self.key };
         let before = text.len();
-        let named = write!(text, "{name}");
+        let named = push_name(text, &self.key.name);
         let blanks = (before.saturating_add(NAME_WIDTH)).saturating_sub(text.len());
         let tenths = self.mean_tenths();
         let counted = write!(
