@@ -7,7 +7,7 @@ use program_shell::{Refusal, Wrong, make_flag, make_top, matches_of, refused};
 use std::alloc::{AllocError, Global};
 
 /// A command of the program.
-#[derive(Clone, Copy, Debug, PartialEq, Eq, Drop)]
+#[derive(Clone, Copy)]
 pub enum ImageCommand {
     /// `words`: words in another packing.
     Words { from: Packing, to: Packing },
@@ -80,24 +80,23 @@ fn make_words<'a>(alloc: Global) -> Result<Command<'a>, AllocError> {
     with_files(alloc, with_from.arg(make_form(alloc, "to", TO))?)
 }
 
+/// The flags of `image source`, each with its help.
+static SOURCE_FLAGS: [(&str, &str); 4] = [
+    ("no-labels", "write each address as a number"),
+    ("no-comments", "write no comments behind the words"),
+    ("no-blocks", "write each word of 0 on a line of its own"),
+    ("no-texts", "write texts as words"),
+];
+
 /// `image source`.
 fn make_source<'a>(alloc: Global) -> Result<Command<'a>, AllocError> {
-    let source = Command::new(alloc, "source").about(
-        "Writes a core image as a source that assembles to exactly its words",
-    );
-    let with_from = source.arg(make_form(alloc, "from", FROM))?;
-    let no_labels = make_flag(alloc, "no-labels", "write each address as a number");
-    let with_labels = with_from.arg(no_labels)?;
-    let no_comments = make_flag(alloc, "no-comments", "write no comments behind the words");
-    let with_comments = with_labels.arg(no_comments)?;
-    let no_blocks = make_flag(
-        alloc,
-        "no-blocks",
-        "write each word of 0 on a line of its own",
-    );
-    let with_blocks = with_comments.arg(no_blocks)?;
-    let no_texts = make_flag(alloc, "no-texts", "write texts as words");
-    with_files(alloc, with_blocks.arg(no_texts)?)
+    let mut source = Command::new(alloc, "source")
+        .about("Writes a core image as a source that assembles to exactly its words")
+        .arg(make_form(alloc, "from", FROM))?;
+    for (name, help) in &SOURCE_FLAGS {
+        source = source.arg(make_flag(alloc, name, help))?;
+    }
+    with_files(alloc, source)
 }
 
 /// `image save`.
@@ -114,18 +113,39 @@ fn make_list<'a>(alloc: Global) -> Result<Command<'a>, AllocError> {
     with_files(alloc, list.arg(make_form(alloc, "from", FROM))?)
 }
 
+/// Adds a command to the program's, if there was memory to make it.
+fn with_command<'a>(
+    top: Command<'a>,
+    made: Result<Command<'a>, AllocError>,
+) -> Result<Command<'a>, AllocError> {
+    match made {
+        Ok(command) => top.subcommand(command),
+        Err(error) => Err(error),
+    }
+}
+
 /// The command line of the program.
 fn make_command<'a>(alloc: Global) -> Result<Command<'a>, AllocError> {
     let top = make_top(alloc, "image", ABOUT, END).subcommand_required(true);
-    let with_words = top.subcommand(make_words(alloc)?)?;
-    let with_source = with_words.subcommand(make_source(alloc)?)?;
-    let with_save = with_source.subcommand(make_save(alloc)?)?;
-    with_save.subcommand(make_list(alloc)?)
+    let with_words = with_command(top, make_words(alloc))?;
+    let with_source = with_command(with_words, make_source(alloc))?;
+    let with_save = with_command(with_source, make_save(alloc))?;
+    with_command(with_save, make_list(alloc))
 }
 
 /// The packing that `--from` or `--to` names.
 fn packing_of(given: &ArgMatches<'_>, option: &'static str) -> Option<Packing> {
     packing_named(given.get_str(option)?)
+}
+
+/// What a source shows, by the flags of `image source`.
+fn shown_in(given: &ArgMatches<'_>) -> Shown {
+    Shown {
+        labels: !given.get_flag("no-labels"),
+        comments: !given.get_flag("no-comments"),
+        blocks: !given.get_flag("no-blocks"),
+        texts: !given.get_flag("no-texts"),
+    }
 }
 
 /// The command of this name with these options; none where a form has another name.
@@ -138,12 +158,7 @@ fn command_in(name: &str, given: &ArgMatches<'_>) -> Option<ImageCommand> {
         }
         "source" => {
             let from = packing_of(given, "from")?;
-            let shown = Shown {
-                labels: !given.get_flag("no-labels"),
-                comments: !given.get_flag("no-comments"),
-                blocks: !given.get_flag("no-blocks"),
-                texts: !given.get_flag("no-texts"),
-            };
+            let shown = shown_in(given);
             Some(ImageCommand::Source { from, shown })
         }
         "save" => {
@@ -173,14 +188,23 @@ fn options_in<'a>(matches: &ArgMatches<'a>) -> Result<Options<'a>, Wrong<'a>> {
     })
 }
 
-/// What the arguments, which begin with the program's name, ask for.
-pub fn read_arguments<'a>(alloc: Global, arguments: &'a [String]) -> Result<Options<'a>, Refusal> {
-    let Ok(mut command) = make_command(alloc) else {
-        return Err(Refusal::Memory);
-    };
-    let matches = matches_of(&mut command, arguments)?;
+/// What the arguments ask for by a command line.
+fn read_by<'a>(
+    alloc: Global,
+    command: &mut Command<'a>,
+    arguments: &'a [String],
+) -> Result<Options<'a>, Refusal> {
+    let matches = matches_of(command, arguments)?;
     match options_in(&matches) {
         Ok(options) => Ok(options),
-        Err(wrong) => Err(refused(alloc, &mut command, wrong)),
+        Err(wrong) => Err(refused(alloc, command, wrong)),
+    }
+}
+
+/// What the arguments, which begin with the program's name, ask for.
+pub fn read_arguments<'a>(alloc: Global, arguments: &'a [String]) -> Result<Options<'a>, Refusal> {
+    match make_command(alloc) {
+        Ok(mut command) => read_by(alloc, &mut command, arguments),
+        Err(_) => Err(Refusal::Memory),
     }
 }
