@@ -12,25 +12,40 @@ use std::alloc::{AllocError, Global};
 /// is that of the source.
 pub fn assemble(alloc: Global, source: &[u8]) -> Result<Assembly, AllocError> {
     let mut state = Assembly::new(alloc, source)?;
-    find_soft_names(&mut state)?;
-    run_passes(&mut state, &mut Work::new(alloc))?;
-    if state.faults.is_empty() {
-        for at in 0..state.moved.len() {
-            if let Some(told) = state.moved.as_slice().get(at).copied() {
-                state.faults.push(told)?;
-            }
+    match run_passes(&mut state, &mut Work::new(alloc)) {
+        Ok(()) => Ok(state),
+        Err(error) => {
+            let_go(state);
+            Err(error)
         }
     }
-    Ok(state)
 }
+
+/// Lets an assembly go for which there was no memory.
+fn let_go(_state: Assembly) {}
 
 /// Reads the source twice, unless a limit ends it.
 fn run_passes(state: &mut Assembly, work: &mut Work) -> Result<(), AllocError> {
+    find_soft_names(state)?;
     run_pass(state, work, 1)?;
     if state.stopped {
         return Ok(());
     }
-    run_pass(state, work, 2)
+    run_pass(state, work, 2)?;
+    tell_moved(state)
+}
+
+/// Tells what has another place in the second pass, where nothing else is wrong.
+fn tell_moved(state: &mut Assembly) -> Result<(), AllocError> {
+    if !state.faults.is_empty() {
+        return Ok(());
+    }
+    for at in 0..state.moved.len() {
+        if let Some(told) = state.moved.as_slice().get(at).copied() {
+            state.faults.push(told)?;
+        }
+    }
+    Ok(())
 }
 
 /// Reads on to the next label or statement, and carries it out. False at the end of the source.

@@ -198,8 +198,32 @@ fn write_all_of<F: Files + AllocGlobal, W: ByteOut, E: ByteOut>(
     }
 }
 
-/// Assembles a source, and writes what the options ask for; gives the exit status. The lines of PRINTX go to `errors`
+/// Writes what the options ask for of a source that is assembled; gives the exit status. The lines of PRINTX go to `errors`
 /// first.
+fn answer_with<F: Files + AllocGlobal, W: ByteOut, E: ByteOut>(
+    rt: &F,
+    options: &Options,
+    state: &Assembly,
+    source: &[u8],
+    writer: &mut W,
+    errors: &mut E,
+) -> u8
+    requires writer_sound { W.has_failed writer.old ≡ false }
+    requires errors_sound { E.has_failed errors.old ≡ false }
+{
+    let Ok(output) = output_of(rt.alloc(), options, state, source) else {
+        return report_failure(errors, &FAILURE_LINES, Failure::Memory);
+    };
+    if write_all(errors, state.typed.as_slice()).is_err() {
+        return FAILED;
+    }
+    write_all_of(rt, options, &output, writer, errors)
+}
+
+/// Lets an assembly go.
+fn let_go(_state: Assembly) {}
+
+/// Assembles a source, and writes what the options ask for; gives the exit status.
 fn answer<F: Files + AllocGlobal, W: ByteOut, E: ByteOut>(
     rt: &F,
     options: &Options,
@@ -210,17 +234,12 @@ fn answer<F: Files + AllocGlobal, W: ByteOut, E: ByteOut>(
     requires writer_sound { W.has_failed writer.old ≡ false }
     requires errors_sound { E.has_failed errors.old ≡ false }
 {
-    let alloc = rt.alloc();
-    let Ok(state) = assemble(alloc, source) else {
+    let Ok(state) = assemble(rt.alloc(), source) else {
         return report_failure(errors, &FAILURE_LINES, Failure::Memory);
     };
-    let Ok(output) = output_of(alloc, options, &state, source) else {
-        return report_failure(errors, &FAILURE_LINES, Failure::Memory);
-    };
-    if write_all(errors, state.typed.as_slice()).is_err() {
-        return FAILED;
-    }
-    write_all_of(rt, options, &output, writer, errors)
+    let status = answer_with(rt, options, &state, source, writer, errors);
+    let_go(state);
+    status
 }
 
 /// Reads the source of the file that the arguments name, or of the reader, assembles it, and writes the source of its
