@@ -4,7 +4,8 @@
 set -eu
 cd "$(dirname "$0")"
 . ./counted.sh
-program=../crates/macro_main/out/macro_main
+program=${MACRO:-../crates/macro_main/out/macro_main}
+[ -x "$program" ] || { echo "macro.sh: $program is no program: build it first" >&2; exit 2; }
 lines() {
     awk -v n="$1" 'BEGIN {
         for (i = 0; i < n; i += 5) {
