@@ -157,7 +157,7 @@ def write():
     chain, names = longest_chain(known.seconds)
     lines += ["", f"The longest chain of proofs takes {chain:.1f} minutes: {', '.join(f'`{it}`' for it in names)}."]
     two, four = laid_over(2, known.seconds), laid_over(4, known.seconds)
-    lines += ["", f"Laid over two processors that are there all the time the proofs take {two:.0f} minutes, over four {four:.0f}."]
+    lines += ["", f"Laid over two processors that are there all the time, the proofs that have minutes below take {two:.0f} minutes; over four, {four:.0f}."]
     lines += ["", "| Crate | Proof | Tests | Builds | Functions | Code | Definitions | Proofs |", "|---|" + 7 * "---|"]
     page = crates.text_of(PAGE)
     before, _, rest = page.partition(MARKS[0])
