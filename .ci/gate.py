@@ -101,6 +101,12 @@ class Teller:
             self.done += bool(KEPT.match(line))
             self.tell(line)
 
+    def end(self):
+        """Tells what is left of the last block: what came of the runs of tests and programs."""
+        for it in self.block or []:
+            self.tell(it)
+        self.block = None
+
     def end_proof(self, line, crate, tests, found):
         self.done += 1
         took = self.clock.seconds()[crate, "tests" if tests else "proof"]
@@ -120,4 +126,5 @@ def run():
         with subprocess.Popen(["rt", "ci"], cwd=crates.TOP, env=clock.environment(), **how) as ran:
             for line in ran.stdout:
                 teller.take(line.rstrip("\n"))
+            teller.end()
         return ran.returncode, teller.last, clock
