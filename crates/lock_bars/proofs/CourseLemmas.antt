@@ -1,9 +1,10 @@
 -- Lemmas on what is seen along a script.
 use Rattle.std.proofs.Common.{◌≡◌, ◌≤◌, ◌+◌, ◌++◌, ◌⊎◌, ◌∙◌, ℕ, suc, List, [], ◌∷◌, Option, None, Some, Result, Ok, Err, IfOk, IfSome}
-use Rattle.std.proofs.Common.{IsSome, is_some, unwrap_or, true, false, refl, sym, ap, subst, inl, inr, arith}
+use Rattle.std.proofs.Common.{IsSome, is_some, unwrap_or, map, true, false, refl, sym, ap, subst, inl, inr, arith}
 use Rattle.std.proofs.lemmas.Bool.{cases_eq}
 use Rattle.std.proofs.lemmas.Bool.Decides.{nat_tests}
 use Rattle.std.proofs.lemmas.Option.{same_Some}
+use Rattle.std.specs.List.{All}
 use Rattle.std.specs.Str.Lines.{lines}
 use Rattle.word36.specs.declared.sizes.TheConstants.{MOST_REQUESTS}
 use Rattle.lock_queue.specs.declared.request.Request.{Request}
@@ -11,9 +12,11 @@ use Rattle.queue_script.specs.Commands.{command_of}
 use Rattle.queue_script.specs.QueueScripts.{continued, effect_of, transcript, transcript_of}
 use Rattle.script_io.specs.declared.endings.Ending.{Ending}
 use Rattle.script_io.specs.declared.endings.Ending.TheVariants as ending
+use Rattle.lock_bars.specs.Arrows.{HasLock, wait_of, waits_in}
 use Rattle.lock_bars.specs.Bars.{bars_after}
 use Rattle.lock_bars.specs.Courses.{Course, IsFaultOf, course, course_of, has_line, line_columns, requests_after, unless_over}
 use Rattle.wait_graph.specs.Graphs.{Shows}
+use Rattle.lock_bars.specs.declared.arrows.Arrow.{Arrow}
 use Rattle.lock_bars.specs.declared.bars.Bar.{Bar}
 use Rattle.lock_bars.specs.declared.columns.Column.{Column}
 use Rattle.lock_bars.specs.declared.errors.ScriptError.{ScriptError}
@@ -152,6 +155,33 @@ kept_next (Some m) behind n columns here old new before is counted kept shown =
       | inr apart ↦ subst (Kept (Some m) behind) (sym (kept (λ h. apart (same_Some m (n + 1) h)))) before
     ]
 
+-- what is said of them and of another thing that is kept with them goes on, where it is said of both behind the line that is asked for
+pub told_next : {W X : Type 0} (at : Option ℕ) (n : ℕ) (P : W → X → Type 0) (old new : Option W) (before after : X) → IfSome old (λ w. P w before)
+    → ((at ≡ Some (n + 1) → ⊥) → new ≡ old)
+    → ((at ≡ Some (n + 1) → ⊥) → after ≡ before)
+    → (at ≡ Some (n + 1) → IfSome new (λ w. P w after))
+    → IfSome new (λ w. P w after)
+told_next None n P old new before after known kept left told =
+    subst (λ o. IfSome o (λ w. P w after)) (sym (kept (λ h. cc))) (subst (λ x. IfSome old (λ w. P w x)) (sym (left (λ h. cc))) known)
+told_next (Some m) n P old new before after known kept left told =
+    elim (cases_eq m (n + 1)) [
+      | inl same ↦ told (ap Some same)
+      | inr apart ↦
+          subst (λ o. IfSome o (λ w. P w after)) (sym (kept (λ h. apart (same_Some m (n + 1) h))))
+          (subst (λ x. IfSome old (λ w. P w x)) (sym (left (λ h. apart (same_Some m (n + 1) h)))) known)
+    ]
+
+-- the locks of arrows are those behind the line that is asked for
+pub locks_here : (behind : ℕ → List Request) (n columns : ℕ) (here : List Request) (waits : Option (Graph × ℕ)) (arrows : List Arrow)
+    → here ≡ behind (n + 1)
+    → columns ≡ n + 1
+    → IfSome waits (λ w. Shows here w.0 × (w.1 ≡ columns))
+    → All (HasLock here) arrows
+    → IfSome waits (λ w. All (HasLock (behind w.1)) arrows)
+locks_here behind n columns here None arrows is counted shown locks = tt
+locks_here behind n columns here (Some w) arrows is counted shown locks =
+    subst (λ r. All (HasLock r) arrows) (is ∙ ap behind (sym (shown.1 ∙ counted))) locks
+
 -- ---- faults
 
 -- why a script that was seen is not drawn: want of memory, or that it has not the line that is asked for
@@ -191,6 +221,31 @@ drawn (Some m) behind lines columns column last None graph kept is counted found
 drawn at behind lines columns column last (Some w) graph kept is counted found asked end =
     let same : unwrap_or at lines ≡ w.1 = ap (λ o. unwrap_or o lines) kept.0 in
     (subst (λ i. Shows (behind i) graph) (sym same) (subst (Shows (behind w.1)) (sym asked.0) kept.1), asked.1 ∙ sym same)
+
+-- the arrows that are drawn are the waits that are drawn
+pub arrows_drawn : (waits : Option (Graph × ℕ)) (graph : Graph) (column : ℕ) (seen arrows : List Arrow)
+    → IfSome waits (λ w. map wait_of seen ≡ waits_in w.0)
+    → IfSome waits (λ w. (graph ≡ w.0) × (column ≡ w.1))
+    → IfSome waits (λ _. arrows ≡ seen)
+    → (waits ≡ None → map wait_of arrows ≡ waits_in graph)
+    → map wait_of arrows ≡ waits_in graph
+arrows_drawn None graph column seen arrows known asked kept end = end refl
+arrows_drawn (Some w) graph column seen arrows known asked kept end = ap (map wait_of) kept ∙ known ∙ ap waits_in (sym asked.0)
+
+-- and their locks are those behind the line that was asked for, or behind the last one
+pub locks_drawn : (at : Option ℕ) (behind : ℕ → List Request) (lines : ℕ) (last : List Request) (waits : Option (Graph × ℕ)) (seen arrows : List Arrow)
+    → IfSome waits (λ w. (at ≡ Some w.1) × Shows (behind w.1) w.0)
+    → last ≡ behind lines
+    → (IsSome at → IsSome waits)
+    → IfSome waits (λ w. All (HasLock (behind w.1)) seen)
+    → IfSome waits (λ _. arrows ≡ seen)
+    → (waits ≡ None → All (HasLock last) arrows)
+    → All (HasLock (behind (unwrap_or at lines))) arrows
+locks_drawn None behind lines last None seen arrows asked is found known kept end = subst (λ r. All (HasLock r) arrows) is (end refl)
+locks_drawn (Some m) behind lines last None seen arrows asked is found known kept end = let contrary : false ≡ true = found refl in cc
+locks_drawn at behind lines last (Some w) seen arrows asked is found known kept end =
+    let same : unwrap_or at lines ≡ w.1 = ap (λ o. unwrap_or o lines) asked.0 in
+    subst (λ i. All (HasLock (behind i)) arrows) (sym same) (subst (λ l. All (HasLock (behind w.1)) l) (sym kept) known)
 
 -- two facts of what was done
 pub both_ok : {X E : Type 0} (r : Result X E) (P Q : X → Type 0) → IfOk r P → IfOk r Q → IfOk r (λ x. P x × Q x)

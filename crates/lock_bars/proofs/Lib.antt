@@ -1,4 +1,4 @@
 pub mod HoldLemmas
 pub mod CourseLemmas
 pub mod BarLemmas
-pub mod LaneLemmas
+pub mod EachJob

@@ -1,5 +1,6 @@
 //! The columns of a picture.
-ghost use Rattle.std.specs.Prelude.{◌≡◌};
+ghost use Rattle.std.specs.Prelude.{◌≡◌, Some};
+ghost use Rattle.lock_bars.specs.Columns.{column_text};
 
 use std::fmt;
 
@@ -22,12 +23,14 @@ impl Column {
 }
 
 impl fmt::Display for Column {
+    ghost output = { λ c. Some (column_text c) };
+
     fn fmt<W: fmt::Write>(&self, f: &mut fmt::Formatter<W>) -> fmt::Result {
         let (line, tick) = (self.line, self.tick);
-        write!(f, "{line}")?;
         if tick > 0 {
-            write!(f, " (tick {tick})")?;
+            write!(f, "{line} (tick {tick})")
+        } else {
+            write!(f, "{line}")
         }
-        Ok(())
     }
 }

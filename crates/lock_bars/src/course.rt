@@ -1,9 +1,11 @@
 //! What was seen along a script.
-ghost use Rattle.std.specs.Prelude.{◌≡◌, ◌≢◌, ◌+◌, ◌++◌, ◌∷◌, [], Some, None, length, IsSome, IfSome, OnOk};
+ghost use Rattle.std.specs.Prelude.{◌≡◌, ◌≢◌, ◌+◌, ◌++◌, ◌∷◌, [], Some, None, length, map, IsSome, IfSome, OnOk};
+ghost use Rattle.std.specs.List.{All};
+ghost use Rattle.lock_bars.specs.Arrows.{HasLock, wait_of, waits_in};
 ghost use Rattle.lock_bars.specs.Bars.{bars_after};
 ghost use Rattle.wait_graph.specs.Graphs.{Shows};
 
-use crate::arrows::{Arrow, arrows_in};
+use crate::arrows::{Arrow, waits_behind};
 use crate::bars::{Bar, record_line};
 use crate::columns::Column;
 use lock_queue::LockTable;
@@ -54,6 +56,7 @@ impl Course {
         ensures bars { OnOk result (self.new.bars.items
             ≡ bars_after (length self.old.columns.items + 1) self.old.bars.items (L.requests table.now)) }
         ensures waits { self.new.waits ≡ self.old.waits }
+        ensures arrows { self.new.arrows ≡ self.old.arrows }
     {
         self.columns.push(column)?;
         let columns = self.columns.as_slice().len();
@@ -72,14 +75,18 @@ impl Course {
         ensures columns { self.new.columns ≡ self.old.columns }
         ensures bars { self.new.bars ≡ self.old.bars }
         ensures kept { at ≢ Some number → self.new.waits ≡ self.old.waits }
+        ensures left { at ≢ Some number → self.new.arrows ≡ self.old.arrows }
         ensures found { OnOk result (at ≡ Some number → IsSome self.new.waits) }
         ensures waits { OnOk result (at ≡ Some number → IfSome self.new.waits (λ w.
             Shows (L.requests table.now) w.0 × (w.1 ≡ length self.old.columns.items))) }
+        ensures arrows { OnOk result (at ≡ Some number → IfSome self.new.waits (λ w.
+            map wait_of self.new.arrows.items ≡ waits_in w.0)) }
+        ensures locks { OnOk result (at ≡ Some number → All (HasLock (L.requests table.now)) self.new.arrows.items) }
     {
         self.lines = number;
         if at == Some(number) {
-            let graph = Graph::of(alloc, table)?;
-            self.arrows = arrows_in(alloc, &graph, table)?;
+            let (graph, arrows) = waits_behind(alloc, table)?;
+            self.arrows = arrows;
             self.waits = Some((graph, self.columns.len()));
         }
         Ok(())

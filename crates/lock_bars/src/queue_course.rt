@@ -1,5 +1,6 @@
 //! What is seen along a script of `lockmon queue`.
-ghost use Rattle.std.specs.Prelude.{◌≡◌, ◌≤◌, ℕ, [], Some, Ok, IsTrue, IfOk, IfErr, IfSome, length, is_some, true, false};
+ghost use Rattle.std.specs.Prelude.{◌≡◌, ◌≤◌, ℕ, [], Some, Ok, IsTrue, IfOk, IfErr, IfSome, length, map, is_some, true, false};
+ghost use Rattle.std.specs.List.{All};
 ghost use Rattle.std.specs.Str.Lines.{lines};
 ghost use Rattle.queue_script.specs.WellFormed.{is_well_formed};
 ghost use Rattle.queue_script.specs.Borrowed.{owned_command};
@@ -7,6 +8,7 @@ ghost use Rattle.queue_script.specs.QueueScripts.{effect_of, call_effect, unless
 ghost use Rattle.script_io.specs.declared.endings.Ending.TheVariants as ending;
 ghost use Rattle.script_io.specs.declared.endings.SourceFault.{SourceFault};
 ghost use Rattle.lock_queue.specs.WellFormed.{is_call};
+ghost use Rattle.lock_bars.specs.Arrows.{HasLock, wait_of, waits_in};
 ghost use Rattle.lock_bars.specs.Courses.{course_of, has_line, line_columns, requests_after, IsFaultOf};
 ghost use Rattle.wait_graph.specs.Graphs.{Shows};
 ghost use Rattle.lock_bars.specs.declared.errors.TheConstants.{MOST_LINES};
@@ -77,6 +79,9 @@ pub fn watch_queue<L: LockTable>(
     ensures few { IfOk result (λ seen. seen.lines ≤ MOST_LINES) }
     ensures waits { IfOk result (λ seen. IfSome seen.waits (λ w. (at ≡ Some w.1)
         × Shows (requests_after L.REQS w.1 [] 0 (lines script.now)) w.0)) }
+    ensures arrows { IfOk result (λ seen. IfSome seen.waits (λ w. map wait_of seen.arrows.items ≡ waits_in w.0)) }
+    ensures locks { IfOk result (λ seen. IfSome seen.waits (λ w.
+        All (HasLock (requests_after L.REQS w.1 [] 0 (lines script.now))) seen.arrows.items)) }
     ensures passed { IfOk result (λ seen. is_some seen.waits ≡ has_line seen.lines at) }
     ensures end { IfOk result (λ seen. L.requests table.new ≡ requests_after L.REQS seen.lines [] 0 (lines script.now)) }
     ensures fault { IfErr result (λ e.

@@ -1,8 +1,8 @@
 //! The lines of a script.
 ghost use Rattle.std.specs.Prelude.{◌≡◌, ℕ, List, [], ◌∷◌, MatchOption};
-ghost use Rattle.std.specs.Str.Lines.{lines, lines_of_parts, strip_carriage_return};
+ghost use Rattle.std.specs.Str.Lines.{lines, lines_of_parts};
 
-use script_io::Parts;
+use script_io::{Parts, without_return};
 use std::marker::Model;
 
 /// The lines of a script that are still to be read. A line ends in LF, and one CR before the LF is
@@ -41,15 +41,5 @@ impl<'a> ScriptLines<'a> {
             return None;
         }
         Some(part)
-    }
-}
-
-/// A line without the CR at its end.
-fn without_return(line: &[u8]) -> &[u8]
-    ensures { result.now ≡ strip_carriage_return line.now }
-{
-    match line {
-        [front @ .., b'\r'] => front,
-        _ => line,
     }
 }

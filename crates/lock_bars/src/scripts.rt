@@ -1,13 +1,15 @@
 //! The pictures of scripts.
 ghost use Rattle.std.specs.Prelude.{◌≡◌, ◌⊎◌, None, IfOk, IfErr, IfSome, IsSome, length, map, unwrap_or, true};
+ghost use Rattle.std.specs.List.{All};
 ghost use Rattle.std.specs.Str.Lines.{lines};
 ghost use Rattle.queue_script.specs.QueueScripts.{transcript};
 ghost use Rattle.script_io.specs.declared.endings.Ending.TheVariants as ending;
 ghost use Rattle.wait_graph.specs.Graphs.{Shows};
+ghost use Rattle.lock_bars.specs.Arrows.{HasLock, wait_of, waits_in};
 ghost use Rattle.lock_bars.specs.Courses.{course, has_line, line_columns, requests_behind, IsFaultOf, Lasts};
 ghost use Rattle.lock_bars.specs.Lanes.{lanes_of, row_of};
 
-use crate::arrows::arrows_in;
+use crate::arrows::waits_behind;
 use crate::course::Course;
 use crate::drawing::Drawing;
 use crate::errors::ScriptError;
@@ -16,7 +18,6 @@ use crate::queue_course::watch_queue;
 use lock_queue::LockTable;
 use lock_table::ProgramTable;
 use std::alloc::Global;
-use wait_graph::Graph;
 
 /// The drawing of what was seen along a script. It shows who waits for whom after the line `at`, where that
 /// was asked for, or else at the end, when the table is as given.
@@ -30,8 +31,12 @@ pub fn drawing_of<L: LockTable>(
     ensures bars { IfOk result (λ drawing. drawing.bars ≡ seen.bars) }
     ensures lanes { IfOk result (λ drawing. map row_of drawing.lanes.items ≡ lanes_of seen.bars.items) }
     ensures asked { IfOk result (λ drawing. IfSome seen.waits (λ w. (drawing.graph ≡ w.0) × (drawing.at_column ≡ w.1))) }
+    ensures kept { IfOk result (λ drawing. IfSome seen.waits (λ _. drawing.arrows.items ≡ seen.arrows.items)) }
     ensures end { IfOk result (λ drawing. seen.waits ≡ None
         → Shows (L.requests table.now) drawing.graph × (drawing.at_column ≡ length seen.columns.items)) }
+    ensures arrows { IfOk result (λ drawing. seen.waits ≡ None
+        → map wait_of drawing.arrows.items ≡ waits_in drawing.graph) }
+    ensures locks { IfOk result (λ drawing. seen.waits ≡ None → All (HasLock (L.requests table.now)) drawing.arrows.items) }
     ensures at { IfOk result (λ drawing. drawing.at ≡ unwrap_or at seen.lines) }
     ensures found { IfOk result (λ drawing. IsSome at → IsSome seen.waits) }
     ensures short { IfErr result (λ e. (e ≡ ScriptError.Memory)
@@ -44,15 +49,13 @@ pub fn drawing_of<L: LockTable>(
         waits,
         arrows,
     } = seen;
-    let (graph, at_column) = match waits {
-        Some(waits) => waits,
-        None if at.is_none() => (Graph::of(alloc, table)?, columns.len()),
+    let (graph, at_column, arrows) = match waits {
+        Some((graph, at_column)) => (graph, at_column, arrows),
+        None if at.is_none() => {
+            let (graph, arrows) = waits_behind(alloc, table)?;
+            (graph, columns.len(), arrows)
+        }
         None => return Err(ScriptError::Short(lines)),
-    };
-    let arrows = if at.is_none() {
-        arrows_in(alloc, &graph, table)?
-    } else {
-        arrows
     };
     let lanes = lanes_of(alloc, bars.as_slice())?;
     Ok(Drawing {
@@ -76,6 +79,8 @@ pub fn draw_script(alloc: Global, script: &[u8], at: Option<usize>) -> Result<Dr
     ensures lasts { Lasts (course script.now) script.now }
     ensures done { IfOk result (λ drawing. (course script.now).ending ≡ ending.Done) }
     ensures waits { IfOk result (λ drawing. Shows (requests_behind drawing.at script.now) drawing.graph) }
+    ensures arrows { IfOk result (λ drawing. map wait_of drawing.arrows.items ≡ waits_in drawing.graph) }
+    ensures locks { IfOk result (λ drawing. All (HasLock (requests_behind drawing.at script.now)) drawing.arrows.items) }
     ensures at { IfOk result (λ drawing. drawing.at ≡ unwrap_or at (course script.now).lines) }
     ensures at_column { IfOk result (λ drawing. drawing.at_column ≡ drawing.at) }
     ensures found { IfOk result (λ drawing. IsSome at → has_line (course script.now).lines at ≡ true) }

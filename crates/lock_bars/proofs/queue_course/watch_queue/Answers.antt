@@ -1,13 +1,17 @@
-use Rattle.std.proofs.Common.{◌≡◌, ◌≤◌, ◌+◌, ◌∙◌, [], None, suc, is_some, length, true, sym, subst, ap, arith, rules}
+use Rattle.std.proofs.Common.{◌≡◌, ◌≤◌, ◌+◌, ◌∙◌, ℕ, List, [], None, suc, is_some, length, map, true, sym, subst, ap, arith, rules}
 use Rattle.std.proofs.lemmas.Grind.{common_steps}
+use Rattle.std.specs.List.{All}
 use Rattle.std.specs.Str.Lines.{lines}
 use Rattle.queue_script.specs.WellFormed.{is_well_formed}
 use Rattle.queue_script.specs.Commands.{command_of}
 use Rattle.queue_script.specs.QueueScripts.{effect_of}
 use Rattle.queue_script.proofs.WellFormedLemmas.{line-right}
+use Rattle.lock_bars.specs.Arrows.{HasLock, wait_of, waits_in}
 use Rattle.lock_bars.specs.Courses.{has_line, requests_after}
+use Rattle.lock_bars.specs.declared.arrows.Arrow.{Arrow}
 use Rattle.lock_bars.specs.declared.errors.TheConstants.{MOST_LINES}
-use Rattle.lock_bars.proofs.CourseLemmas.{behind_next, behind_now, columns_next, kept_next, passed_next, seen_least}
+use Rattle.lock_bars.proofs.CourseLemmas.{behind_next, behind_now, columns_next, kept_next, locks_here, passed_next, seen_least, told_next}
+use Rattle.wait_graph.specs.declared.graph.Graph.{Graph}
 use Rattle.lock_bars.proofs.queue_course.watch_queue.Goals as goal
 
 pub follow-requires : goal.follow-requires
@@ -52,6 +56,11 @@ loop-line-preserved g c =
     c.follow.ensures.requests (n + 1) ∙ ap (λ a. (effect_of size (n + 1) requests a).requests) c.read_command-command.ensures in
     let goes_on : None ≡ (effect_of size (n + 1) requests (command_of line)).ending = search rules in
     let behind = behind_next size requests next n c.end_line.new.self.lines c.loop-line.lines c.next.new.self all line c.in-Some.ensures is counted known.behind in
+    let behind_this : next ≡ requests_after size (n + 1) [] 0 all =
+    subst (λ i. next ≡ requests_after size i [] 0 all) counted (behind_now size next c.end_line.new.self.lines c.next.new.self all behind) in
+    let columns = length c.look.new.self.columns.items in
+    let waits = c.end_line.new.self.waits in
+    let arrows = c.end_line.new.self.arrows.items in
     record {
       few = omega arith;
       columns = search rules;
@@ -63,7 +72,12 @@ loop-line-preserved g c =
       passed = subst (λ i. is_some c.end_line.new.self.waits ≡ has_line i c.args.at) (sym counted)
           (passed_next c.args.at n c.loop-line.seen.waits c.end_line.new.self.waits known.passed (λ apart. ended.kept apart ∙ looked.waits) ended.found);
       waits = kept_next c.args.at (λ k. requests_after size k [] 0 all) n
-          (length c.look.new.self.columns.items) next c.loop-line.seen.waits c.end_line.new.self.waits
-          known.waits (subst (λ i. next ≡ requests_after size i [] 0 all) counted (behind_now size next c.end_line.new.self.lines c.next.new.self all behind))
-          wide (λ apart. ended.kept apart ∙ looked.waits) ended.waits;
+          columns next c.loop-line.seen.waits waits known.waits behind_this wide (λ apart. ended.kept apart ∙ looked.waits) ended.waits;
+      arrows = told_next c.args.at n (λ (w : Graph × ℕ) (l : List Arrow). map wait_of l ≡ waits_in w.0) c.loop-line.seen.waits waits
+          c.loop-line.seen.arrows.items arrows known.arrows (λ apart. ended.kept apart ∙ looked.waits)
+          (λ apart. ap (λ v. v.items) (ended.left apart ∙ looked.arrows)) ended.arrows;
+      locks = told_next c.args.at n (λ (w : Graph × ℕ) (l : List Arrow). All (HasLock (requests_after size w.1 [] 0 all)) l) c.loop-line.seen.waits waits
+          c.loop-line.seen.arrows.items arrows known.locks (λ apart. ended.kept apart ∙ looked.waits)
+          (λ apart. ap (λ v. v.items) (ended.left apart ∙ looked.arrows))
+          (λ asked. locks_here (λ (k : ℕ). requests_after size k [] 0 all) n columns next waits arrows behind_this wide (ended.waits asked) (ended.locks asked));
     }

@@ -1,7 +1,9 @@
 -- What is seen from here on is what is seen of the whole script, and the waits are those behind the line that is asked for.
-use Rattle.std.proofs.Common.{◌≡◌, ◌≤◌, ◌+◌, ℕ, [], is_some, length}
+use Rattle.std.proofs.Common.{◌≡◌, ◌≤◌, ◌+◌, ℕ, [], IfSome, is_some, length, map}
+use Rattle.std.specs.List.{All}
 use Rattle.std.specs.Str.Lines.{lines}
 use Rattle.lock_bars.proofs.CourseLemmas.{Kept}
+use Rattle.lock_bars.specs.Arrows.{HasLock, wait_of, waits_in}
 use Rattle.lock_bars.specs.Courses.{course_of, has_line, line_columns, requests_after}
 use Rattle.lock_bars.specs.declared.errors.TheConstants.{MOST_LINES}
 use Rattle.lock_bars.proofs.queue_course.watch_queue.Given as goal
@@ -18,6 +20,8 @@ invariant-loop-line g l = record {
       ≡ requests_after g.L.LockTable.REQS (l.seen.lines + k) [] 0 (lines l.script);
   passed : is_some l.seen.waits ≡ has_line l.seen.lines l.at;
   waits : Kept l.at (λ k. requests_after g.L.LockTable.REQS k [] 0 (lines l.script)) l.seen.waits;
+  arrows : IfSome l.seen.waits (λ w. map wait_of l.seen.arrows.items ≡ waits_in w.0);
+  locks : IfSome l.seen.waits (λ w. All (HasLock (requests_after g.L.LockTable.REQS w.1 [] 0 (lines l.script))) l.seen.arrows.items);
 }
 
 abbrev pub decreases-loop-line : goal.decreases-loop-line

@@ -1,12 +1,14 @@
 use Rattle.std.proofs.Common.{◌∙◌, ℕ, unwrap_or, length, sym, ap, subst}
 use Rattle.std.proofs.lemmas.Result.{IfErr-weaker, IfOk-weaker}
+use Rattle.std.specs.List.{All}
 use Rattle.std.specs.Str.Lines.{lines}
+use Rattle.lock_bars.specs.Arrows.{HasLock}
 use Rattle.lock_bars.specs.Courses.{course, has_line, requests_behind}
 use Rattle.wait_graph.specs.Graphs.{Shows}
 use Rattle.lock_bars.specs.Courses.{line_columns}
 use Rattle.lock_bars.specs.Lanes.{lanes_of}
 use Rattle.lock_bars.proofs.BarLemmas.{bars_last}
-use Rattle.lock_bars.proofs.CourseLemmas.{both_ok, drawn, script_ends, short_fault}
+use Rattle.lock_bars.proofs.CourseLemmas.{arrows_drawn, both_ok, drawn, locks_drawn, script_ends, short_fault}
 use Rattle.lock_bars.proofs.scripts.draw_script.Goals as goal
 
 pub returns-in_err-table-clause-ends : goal.returns-in_err-table-clause-ends
@@ -36,6 +38,29 @@ returns-clause-waits c =
     (drawn c.args.at behind c.in_ok-seen.seen.lines (length c.in_ok-seen.seen.columns.items) drawing.at_column _ c.in_ok-seen.seen.waits drawing.graph
     seen.waits seen.end seen.columns facts.1.0 facts.1.1.0 facts.1.1.1).0)
     (both_ok r _ _ told.at (both_ok r _ _ told.found (both_ok r _ _ told.asked told.end)))
+
+pub returns-clause-arrows : goal.returns-clause-arrows
+returns-clause-arrows c =
+    let r = c.drawing_of.result in
+    let told = c.drawing_of.ensures in
+    let seen = c.in_ok-seen.seen in
+    IfOk-weaker r _ _
+    (λ drawing facts.
+    arrows_drawn seen.waits drawing.graph drawing.at_column seen.arrows.items drawing.arrows.items c.in_ok-seen.ensures.arrows facts.0 facts.1.0 facts.1.1)
+    (both_ok r _ _ told.asked (both_ok r _ _ told.kept told.arrows))
+
+pub returns-clause-locks : goal.returns-clause-locks
+returns-clause-locks c =
+    let r = c.drawing_of.result in
+    let told = c.drawing_of.ensures in
+    let seen = c.in_ok-seen.seen in
+    let known = c.in_ok-seen.ensures in
+    let behind = λ (k : ℕ). requests_behind k c.args.script.now in
+    IfOk-weaker r _ _
+    (λ drawing facts. subst (λ i. All (HasLock (behind i)) drawing.arrows.items) (sym facts.0)
+    (locks_drawn c.args.at behind seen.lines _ seen.waits seen.arrows.items drawing.arrows.items known.waits known.end facts.1.0 known.locks
+    facts.1.1.0 facts.1.1.1))
+    (both_ok r _ _ told.at (both_ok r _ _ told.found (both_ok r _ _ told.kept told.locks)))
 
 pub returns-clause-at : goal.returns-clause-at
 returns-clause-at c =

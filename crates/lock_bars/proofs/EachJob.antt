@@ -1,8 +1,7 @@
--- Lemmas on lanes.
+-- Lists that are made job by job.
 use Rattle.std.proofs.Common.{◌≡◌, ◌<◌, ◌≤◌, ◌+◌, ◌-◌, ◌++◌, ◌∙◌, ℕ, suc, List, [], ◌∷◌, arith, sym, ap, append_assoc, append-nil}
 use Rattle.std.specs.List.{flat_map}
 use Rattle.lock_queue.specs.Waits.{jobs, numbers_from}
-use Rattle.lock_bars.specs.Lanes.{Row}
 use Rattle.wait_graph.proofs.JobLemmas.{jobs-start}
 use Rattle.wait_graph.specs.declared.pairs.TheConstants.{NUMBERS}
 use Rattle.word36.specs.declared.sizes.TheConstants.{JOBS}
@@ -15,17 +14,17 @@ rest_end : (j : ℕ) → NUMBERS ≤ j → numbers_from j (NUMBERS - j) ≡ []
 unfolding numbers_from
 rest_end j h = let e : NUMBERS - j ≡ 0 = omega arith in ap (numbers_from j) e
 
--- the lanes of each job in turn
-pub lanes_start : (f : ℕ → List Row) (sofar : List Row) → sofar ≡ [] → sofar ++ flat_map f (numbers_from 1 JOBS) ≡ flat_map f jobs
-lanes_start f sofar none = ap (λ l. l ++ flat_map f (numbers_from 1 JOBS)) none ∙ ap (flat_map f) jobs-start
+-- what each job has, in turn
+pub each_start : {A : Type 0} (f : ℕ → List A) (sofar : List A) → sofar ≡ [] → sofar ++ flat_map f (numbers_from 1 JOBS) ≡ flat_map f jobs
+each_start f sofar none = ap (λ l. l ++ flat_map f (numbers_from 1 JOBS)) none ∙ ap (flat_map f) jobs-start
 
-pub lanes_step : (f : ℕ → List Row) (j : ℕ) (sofar new all : List Row) → j < NUMBERS → new ≡ sofar ++ f j
+pub each_step : {A : Type 0} (f : ℕ → List A) (j : ℕ) (sofar new all : List A) → j < NUMBERS → new ≡ sofar ++ f j
     → sofar ++ flat_map f (numbers_from j (NUMBERS - j)) ≡ all → new ++ flat_map f (numbers_from (j + 1) (NUMBERS - (j + 1))) ≡ all
-lanes_step f j sofar new all within pushed before =
+each_step f j sofar new all within pushed before =
     ap (λ l. l ++ flat_map f (numbers_from (j + 1) (NUMBERS - (j + 1)))) pushed
     ∙ append_assoc sofar (f j) (flat_map f (numbers_from (j + 1) (NUMBERS - (j + 1))))
     ∙ ap (λ l. sofar ++ flat_map f l) (sym (rest_at j within)) ∙ before
 
-pub lanes_end : (f : ℕ → List Row) (j : ℕ) (sofar all : List Row) → NUMBERS ≤ j
+pub each_end : {A : Type 0} (f : ℕ → List A) (j : ℕ) (sofar all : List A) → NUMBERS ≤ j
     → sofar ++ flat_map f (numbers_from j (NUMBERS - j)) ≡ all → sofar ≡ all
-lanes_end f j sofar all end before = sym (append-nil sofar) ∙ ap (λ l. sofar ++ flat_map f l) (sym (rest_end j end)) ∙ before
+each_end f j sofar all end before = sym (append-nil sofar) ∙ ap (λ l. sofar ++ flat_map f l) (sym (rest_end j end)) ∙ before
