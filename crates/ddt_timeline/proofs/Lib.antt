@@ -5,3 +5,4 @@ pub mod GoingOn
 pub mod HistoryLemmas
 pub mod GoingBack
 pub mod RecordedLemmas
+pub mod AskingLemmas

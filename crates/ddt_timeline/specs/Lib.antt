@@ -5,3 +5,4 @@ pub mod Histories
 pub mod Laws
 pub mod Views
 pub mod Recorded
+pub mod Asking

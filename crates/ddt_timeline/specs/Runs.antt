@@ -52,12 +52,13 @@ can_run (Some view) = is_none view.stop && is_no_wait view.wait
 can_run None = false
 
 -- a run from a state on, to some stops, of at most so many rounds: behind none of its rounds but the last a stop held, and
--- before each of them a job went on; what it says of its stops is what holds behind the last one; and where it made fewer than
--- it may, a stop or the watch ended it, or no job goes on
+-- before each of them a job went on; what it says of its stops is what holds behind the last one; the watch ended it only
+-- where no stop did; and where it made fewer than it may, a stop or the watch ended it, or no job goes on
 pub record IsRun (s : S) (stops : List WatchedStop) (limit : ℕ) (ran : Run) : Type 0 where
   pub most : ran.made ≤ limit
   pub none_over : (k : ℕ) → k + 1 < ran.made → met_after stops (after (rounds k true) s) ≡ None
   pub last : 1 ≤ ran.made → ran.stop ≡ met_after stops (after (rounds (ran.made - 1) true) s)
   pub nothing : ran.made ≡ 0 → ran.stop ≡ None
+  pub quiet : ran.by_watch ≡ true → ran.stop ≡ None
   pub going : (k : ℕ) → k < ran.made → SomeGoesOn (after (rounds k true) s)
   pub ends : ran.made < limit → ran.stop ≡ None → ran.by_watch ≡ false → some_go_on (after (rounds ran.made true) s) ≡ false

@@ -7,6 +7,7 @@ ghost use Rattle.machine.specs.Between.{is_among, next_in};
 ghost use Rattle.ddt_timeline.specs.Stops.{fits, ran_of, round, has_ended, has_pc, is_at, is_at_one_of, is_input};
 ghost use Rattle.ddt_timeline.specs.Stops.{is_met, is_met_at, is_within};
 ghost use Rattle.ddt_timeline.specs.Stops.{is_word, noted, met_after, stands_at, waits_for_input, waits_in_circle};
+ghost use Rattle.ddt_timeline.specs.Asking.{IsAsked};
 ghost use Rattle.ddt_timeline.specs.Runs.{IsRun, SomeGoesOn, can_run, ends_by_ticks, goes_on, is_no_wait, some_go_on};
 ghost use Rattle.machine.specs.Views.{job_view};
 
@@ -47,15 +48,23 @@ pub struct WatchedStop {
 
 /// What else may end a run after one of its rounds.
 pub trait Watch {
+    ghost use Rattle.std.specs.Prelude.{ℕ, Option};
+    ghost use Rattle.machine.specs.Machine.{S};
+
     /// Whether it looks at each round.
     ghost looks: { Self → Bool };
+
+    /// What it makes of a watch to be asked behind a round that left a state, in which a job ran, if one did, and whether it
+    /// ends the run there.
+    ghost Asks: { Self → Self → S → Option ℕ → Bool → Type 0 };
 
     /// Whether it looks at each round; where it does not, many rounds may be made at once, and it ends no run.
     fn looks_at_rounds(&self) -> bool
         ensures { result ≡ looks self.now };
 
     /// Whether the run ends after a round in which this job ran, if one did.
-    fn ends_run(&mut self, machine: &Machine, ran: Option<u8>) -> bool;
+    fn ends_run(&mut self, machine: &Machine, ran: Option<u8>) -> bool
+        ensures { Asks self.old self.new machine.now ran result };
 }
 
 /// A watch that ends no run.
@@ -64,6 +73,8 @@ pub struct NoWatch;
 
 impl Watch for NoWatch {
     ghost looks = { λ watch. false };
+
+    ghost Asks = { λ old new s ran ends. ends ≡ false };
 
     #[inline(always)]
     fn looks_at_rounds(&self) -> bool {
@@ -380,6 +391,7 @@ fn are_within(addresses: &[Address], stops: &[WatchedStop]) -> bool
 fn most_at_once(addresses: &[Address], stops: &[WatchedStop], is_watched: bool) -> u32
     ensures least { 1 ≤ result }
     ensures many { 2 ≤ result → list_all (is_within addresses.now) stops.now ≡ true }
+    ensures watched { is_watched ≡ true → result ≡ 1 }
 {
     if !is_watched && are_within(addresses, stops) {
         u32::MAX
@@ -408,6 +420,7 @@ fn may_go_on(machine: &Machine, ran: &Run, most: u32, is_ready: bool) -> bool
     requires { is_ready ≡ true → is_some (next_in machine.now) ≡ true }
     ensures stop { result ≡ true → ran.now.stop ≡ None }
     ensures few { result ≡ true → ran.now.made < most }
+    ensures quiet { result ≡ true → ran.now.by_watch ≡ false }
     ensures going { result ≡ true → SomeGoesOn machine.now }
     ensures ends { result ≡ false → ran.now.made < most → ran.now.stop ≡ None → ran.now.by_watch ≡ false → some_go_on machine.now ≡ false }
 {
@@ -427,7 +440,10 @@ fn is_ended_by<W: Watch>(
     is_watched: bool,
     stop: Option<usize>,
 ) -> bool
-    ensures { result ≡ true → is_watched ≡ true }
+    ensures watched { result ≡ true → is_watched ≡ true }
+    ensures quiet { result ≡ true → stop ≡ None }
+    ensures asked { is_watched ≡ true → stop ≡ None → W.Asks watch.old watch.new machine.now job result }
+    ensures unasked { OnSome stop (watch.new ≡ watch.old) }
 {
     if !is_watched || stop.is_some() {
         return false;
@@ -448,6 +464,7 @@ pub fn run_until<W: Watch>(
     ensures state { machine.new ≡ after (rounds result.made true) machine.old }
     ensures run { IsRun machine.old stops.old most result }
     ensures watched { result.by_watch ≡ true → W.looks watch.old ≡ true }
+    ensures asked { W.looks watch.old ≡ true → 1 ≤ result.made → IsAsked W.Asks machine.old watch.old watch.new result }
 {
     let is_watched = watch.looks_at_rounds();
     let at_once = most_at_once(addresses, stops, is_watched);

@@ -86,6 +86,7 @@ pub fn let_go(machine: Machine) {}
 impl Timeline {
     ghost use Rattle.ddt_timeline.specs.Histories.{at_end, cut, done, everything};
     ghost use Rattle.ddt_timeline.specs.Histories.{history_of, is_before_step, machine_of, one_step, things_of};
+    ghost use Rattle.ddt_timeline.specs.Asking.{IsAsked};
     ghost use Rattle.ddt_timeline.specs.Runs.{IsRun};
     ghost use Rattle.ddt_timeline.specs.Timelines.{answer_to, ticks_in};
     ghost use Rattle.ddt_timeline.specs.Views.{history, steps_behind, whole_entries};
@@ -220,6 +221,8 @@ impl Timeline {
         ensures happened { IfOk result (λ ran. history self.new ≡ done (history self.old) (replicate ran.made one_step)) }
         ensures run { IfOk result (λ ran. IsRun (machine_of (history self.old)) stops.old most ran) }
         ensures watched { IfOk result (λ ran. ran.by_watch ≡ true → W.looks watch.old ≡ true) }
+        ensures asked { IfOk result (λ ran. W.looks watch.old ≡ true → 1 ≤ ran.made
+            → IsAsked W.Asks (machine_of (history self.old)) watch.old watch.new ran) }
         ensures fails { OnErr result (history self.new ≡ cut (history self.old)) }
     {
         self.cut()?;

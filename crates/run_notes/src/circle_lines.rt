@@ -87,7 +87,8 @@ fn push_job(
     had: Option<LockBetween<'_>>,
     waited: Option<LockBetween<'_>>,
 ) -> Result<(), AllocError>
-    ensures { OnOk result (string_bytes text.new ≡ string_bytes text.old ++ job_words job (had_words had.entry) (waited_words waited.entry)) }
+    ensures { OnOk result
+        (string_bytes text.new ≡ string_bytes text.old ++ job_words job (had_words had.entry) (waited_words waited.entry)) }
 {
     write!(text, " job {job} (")?;
     push_has(text, had)?;

@@ -7,6 +7,7 @@ use crate::stores::push_changes;
 use crate::traced_job::TracedJob;
 use concrete_machine::Machine;
 use job_sched::{Stop, Wait};
+use ka_cpu::StopReason;
 use ka_isa::{Family, classify, decode};
 use monitor::JobView;
 use std::alloc::{AllocError, Global};
@@ -96,6 +97,16 @@ pub fn time_limit_line(
         .and(Ok(text))
 }
 
+/// Whether the instruction of a step was carried out. A stop by the processor leaves it undone, but for that of a pushdown
+/// list that ran over.
+fn is_carried_out(after: &JobView) -> bool {
+    match after.stop {
+        Some(Stop::Fault(StopReason::Pushdown)) => true,
+        Some(Stop::Fault(_)) => false,
+        _ => true,
+    }
+}
+
 /// Adds what is reported of a step behind its address: the instruction, what it changed, and where the job goes
 /// unless that is the next address.
 fn push_step(
@@ -112,7 +123,7 @@ fn push_step(
         return write!(text, "interrupt  to {next}");
     }
     let mut added = push_instruction(text, job, before);
-    if !matches!(after.stop, Some(Stop::Fault(_))) {
+    if is_carried_out(&after) {
         added = added.and(push_changes(text, machine, job, before));
     }
     added.and(push_way(text, job, before, &after))
