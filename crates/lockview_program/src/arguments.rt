@@ -11,7 +11,7 @@ use std::convert::AsStr;
 const MOST_AT: u64 = 1_000_000;
 
 /// What is written of a script.
-#[derive(Clone, Copy, Debug, PartialEq, Eq)]
+#[derive(Clone, Copy, PartialEq, Eq)]
 pub enum Form {
     /// The picture as SVG.
     Svg,
@@ -41,7 +41,7 @@ const END: &str = "Writes the picture to standard output, as in:\n\
     lockview examples/circle_of_waits.queue > circle.svg\n\
     Status: 0 all done, 1 the script was refused, 2 wrong words, 3 reading, writing or memory failed.";
 
-const RUN: &str = "draw a script of `lockmon run`, and not of `lockmon queue`";
+const RUN: &str = "the script is one of `lockmon run`, and not of `lockmon queue`";
 
 const TEXT: &str = "write the picture as text for a terminal, and not as SVG";
 
@@ -53,8 +53,7 @@ const EXPLAIN: &str =
 const FILE: &str = "the script, and not standard input";
 
 const WRONG_EXPLAIN: &str =
-    "'--explain' takes a script of `lockmon queue`, and makes no picture: it stands with none of \
-    '--run', '--text' and '--at'";
+    "'--explain' makes no picture: it stands with neither '--text' nor '--at'";
 
 const WRONG_AT: &str =
     "invalid value for '--at <N>': the number of a line of the script, 1 or more, is wanted";
@@ -92,7 +91,7 @@ fn options_in<'a>(alloc: Global, matches: &ArgMatches<'a>) -> Result<Options, Wr
     let run = matches.get_flag("run");
     let is_text = matches.get_flag("text");
     let is_explained = matches.get_flag("explain");
-    if is_explained && (run || is_text || at.is_some()) {
+    if is_explained && (is_text || at.is_some()) {
         return Err(Wrong::Other(WRONG_EXPLAIN));
     }
     let form = if is_explained {

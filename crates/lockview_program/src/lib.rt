@@ -4,13 +4,14 @@
 
 mod arguments;
 mod axis;
-mod explained;
+mod refusals;
 mod run_course;
-mod sentences;
+mod run_lines;
+mod run_reasons;
 mod serving;
 mod text;
 
-pub use explained::explain_script;
 pub use run_course::draw_run_script;
+pub use run_reasons::explain_run_script;
 pub use serving::{FAILURE_LINES, program};
 pub use text::say_picture;

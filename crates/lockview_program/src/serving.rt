@@ -3,8 +3,8 @@ ghost use Rattle.std.specs.Prelude.{◌≡◌, false, IfOk};
 ghost use Rattle.program_shell.specs.Reports.{WritesOnlyWhenDone};
 
 use crate::arguments::{Form, Options, read_arguments};
-use crate::explained::explain_script;
 use crate::run_course::draw_run_script;
+use crate::run_reasons::explain_run_script;
 use crate::text::say_picture;
 use fault_text::{NO_ENDASM, Refused, explain};
 use lock_bars::{MOST_LINES, ScriptError, ScriptLines, SourceFault, draw_script};
@@ -14,7 +14,8 @@ use program_shell::{
     refuse_arguments, report_failure, report_to, write_output,
 };
 use script_io::{ByteIn, ByteOut, LINE_LENGTH};
-use std::alloc::{AllocError, Global};
+use script_reasons::explain_script;
+use std::alloc::Global;
 use std::convert::AsStr;
 use std::fs;
 use std::rt::Files;
@@ -62,10 +63,12 @@ fn say_script(
     options: &Options,
     script: &[u8],
 ) -> Result<(), ScriptError> {
-    if options.form == Form::Explained {
-        explain_script(alloc, text, script)
-    } else {
+    if options.form != Form::Explained {
         say_drawing(alloc, text, options, script)
+    } else if options.run {
+        explain_run_script(alloc, text, script)
+    } else {
+        explain_script(alloc, text, script)
     }
 }
 
@@ -82,59 +85,50 @@ fn line_at(script: &[u8], number: usize) -> &[u8] {
     }
 }
 
-/// What is wrong with a line of a script, in a line.
-fn line_text(
-    alloc: Global,
-    options: &Options,
-    script: &[u8],
-    number: usize,
-) -> Result<String, AllocError> {
+/// Adds what is wrong with a line of a script.
+fn say_line(text: &mut PendingText, options: &Options, script: &[u8], number: usize) {
     let language = if options.run {
         Refused::Run
     } else {
         Refused::Queue
     };
-    let text = explain(alloc, language, line_at(script, number))?;
-    format!(in alloc; "lockview: line {number}: {text}\n")
+    text.say_number("line ", number as u64, ": ");
+    text.say_made(explain(text.alloc, language, line_at(script, number)));
 }
 
-/// What is wrong with a line of a source, in a line.
-fn source_text(alloc: Global, script: &[u8], fault: SourceFault) -> Result<String, AllocError> {
-    let line = fault.line;
-    let whole = fault.begins.saturating_add(line);
-    let refused = if line == 0 {
+/// Adds what is wrong with a line of a source.
+fn say_source(text: &mut PendingText, script: &[u8], fault: SourceFault) {
+    let whole = fault.begins.saturating_add(fault.line);
+    let refused = if fault.line == 0 {
         b""
     } else {
         line_at(script, whole)
     };
-    let text = source_faults::explain(alloc, fault.code, refused)?;
-    format!(in alloc; "lockview: line {whole}, line {line} of its source: {text}\n")
+    text.say_number("line ", whole as u64, "");
+    text.say_number(", line ", fault.line as u64, " of its source: ");
+    text.say_made(source_faults::explain(text.alloc, fault.code, refused));
 }
 
-/// Why a script is not drawn, in a line; an error where there is no memory for it.
-fn reason_of(
-    alloc: Global,
-    options: &Options,
-    script: &[u8],
-    error: ScriptError,
-) -> Result<String, AllocError> {
+/// Adds why a script is not drawn, in a line.
+fn say_fault(text: &mut PendingText, options: &Options, script: &[u8], error: ScriptError) {
+    text.say("lockview: ");
     match error {
-        ScriptError::Memory => Err(AllocError),
-        ScriptError::Line(number) => line_text(alloc, options, script, number),
-        ScriptError::Source(fault) => source_text(alloc, script, fault),
+        ScriptError::Memory => text.fail(),
+        ScriptError::Line(number) => say_line(text, options, script, number),
+        ScriptError::Source(fault) => say_source(text, script, fault),
         ScriptError::NoEnd(lines) => {
-            let number = lines.saturating_add(1);
-            format!(in alloc; "lockview: line {number}: {NO_ENDASM}\n")
+            text.say_number("line ", lines.saturating_add(1) as u64, ": ");
+            text.say(NO_ENDASM);
         }
         ScriptError::TooLong => {
-            format!(in alloc; "lockview: the script has more than {MOST_LINES} lines\n")
+            text.say_number("the script has more than ", MOST_LINES as u64, " lines");
         }
         ScriptError::Short(lines) => {
-            format!(in alloc;
-                "lockview: the script ends at line {lines}, before the line of --at\n"
-            )
+            text.say_number("the script ends at line ", lines as u64, "");
+            text.say(", before the line of --at");
         }
     }
+    text.end_line();
 }
 
 fn status_of(error: ScriptError) -> u8 {
@@ -232,9 +226,12 @@ fn refuse_script<E: ByteOut>(
 ) -> u8
     requires { E.has_failed errors.old ≡ false }
 {
-    match reason_of(alloc, options, script, error) {
-        Ok(text) => report_to(errors, text.as_str().as_bytes(), status_of(error)),
-        Err(_) => report_failure(errors, &FAILURE_LINES, Failure::Memory),
+    let mut text = PendingText::new(alloc);
+    say_fault(&mut text, options, script, error);
+    if text.is_whole() {
+        report_to(errors, text.as_bytes(), status_of(error))
+    } else {
+        report_failure(errors, &FAILURE_LINES, Failure::Memory)
     }
 }
 

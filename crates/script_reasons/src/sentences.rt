@@ -1,16 +1,23 @@
 //! Why the lock queue refuses a call, or lets it wait, in sentences.
 
+use crate::explanations::Explanation;
 use lock_bars::LockLabel;
-use lock_queue::{Key, Refusal, Request, Want};
-use lock_reasons::{Met, Present, Reason, Rule, way_of};
+use lock_queue::{Key, Refusal, Want};
+use lock_reasons::{Cause, Met, Present, Reason, Rule};
 use program_shell::PendingText;
 
 /// What a call is refused for before it is judged, by its code.
-pub fn refusal_text(refusal: Refusal) -> &'static str {
+fn refusal_text(refusal: Refusal) -> &'static str {
     match refusal {
         Refusal::NoFunction => "there is no such function: ENQ has 0 to 3, DEQ 0 to 2",
+        Refusal::BadBlock => {
+            "the block's head is not n,,2+3n, or it has a limit and the call does not wait, or the job has no such memory"
+        }
         Refusal::BadCount => "a call names 1 to 16 locks",
+        Refusal::BadPointer =>
+            "a lock has neither a user code nor a byte pointer to a name that the job has",
         Refusal::BadName => "a name has 1 to 30 characters",
+        Refusal::BadQualifier => "a name is one of all jobs (777777) or of the job's own (777776)",
         Refusal::BadPool => {
             "an amount is from 1 to the size of its pool, a pool is not shared, and only what is shared has a group"
         }
@@ -112,16 +119,12 @@ fn say_meeting(text: &mut PendingText, rule: Rule, want: &Want, met: &Met) {
     }
 }
 
-/// Who stands in the way of a want behind some requests.
-pub fn say_way(text: &mut PendingText, requests: &[Request], want: &Want) {
-    let Ok(way) = way_of(text.alloc, requests, want) else {
-        text.fail();
-        return;
-    };
+/// Which want does not fit, and who stands in its way.
+fn say_way(text: &mut PendingText, want: &Want, way: &[Present]) {
     text.say("in the way of ");
     say_lock(text, &want.key);
     let mut before = ": ";
-    for present in way.as_slice() {
+    for present in way {
         text.say(before);
         say_request(text, present);
         text.say(" (");
@@ -131,8 +134,8 @@ pub fn say_way(text: &mut PendingText, requests: &[Request], want: &Want) {
     }
 }
 
-/// Why a job's call is refused behind some requests.
-pub fn say_reason(text: &mut PendingText, requests: &[Request], job: u8, reason: &Reason) {
+/// Why a job's call is refused.
+fn say_reason(text: &mut PendingText, job: u8, reason: &Reason) {
     match reason {
         Reason::Meets(rule, want, met) => say_meeting(text, *rule, want, met),
         Reason::NotPresent(want) => {
@@ -146,16 +149,30 @@ pub fn say_reason(text: &mut PendingText, requests: &[Request], job: u8, reason:
         }
         Reason::NoVector => text.say_number("job ", u64::from(job), " has no interrupt vector"),
         Reason::OverQuota(quota) => {
-            text.say_number("job ", u64::from(job), " has as many requests as it may: ");
+            text.say_number("job ", u64::from(job), " may have no more requests than ");
             text.say_number("", u64::from(*quota), "");
         }
         Reason::QueueFull(size) => {
             text.say_number("the queue is full: it has ", *size as u64, " requests");
         }
-        Reason::NotGranted(want) => say_way(text, requests, want),
+        Reason::NotGranted(want) => say_way(text, want, &[]),
         Reason::WouldLose(other, id) => {
             text.say_number("job ", u64::from(*other), " would lose what it owns by ");
             text.say_number("request ", u64::from(id.number()), "");
         }
+    }
+}
+
+/// Why a call is not done, or not granted, at once.
+pub fn say_explanation(text: &mut PendingText, explanation: &Explanation) {
+    match explanation {
+        Explanation::Busy(job) => text.say_number(
+            "job ",
+            u64::from(*job),
+            " waits, and makes no call",
+        ),
+        Explanation::Wrong(refusal) => text.say(refusal_text(*refusal)),
+        Explanation::Judged(job, Cause::Refused(reason)) => say_reason(text, *job, reason),
+        Explanation::Judged(_, Cause::InTheWay(want, way)) => say_way(text, want, way.as_slice()),
     }
 }

@@ -1,5 +1,5 @@
 use Rattle.std.proofs.Common.{length}
-use Rattle.lockview_program.proofs.explained.say_answers.Given as goal
+use Rattle.script_reasons.proofs.queue_lines.say_answers.Given as goal
 
 abbrev pub decreases-loop-line : goal.decreases-loop-line
 decreases-loop-line l = length l.lines

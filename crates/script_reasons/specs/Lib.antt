@@ -1,0 +1,2 @@
+pub mod QueueLines
+pub mod Explanations

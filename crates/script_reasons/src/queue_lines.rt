@@ -1,0 +1,217 @@
+//! A script of `lockmon queue` with the answers to its lines, and with the reason of each refusal and each wait.
+ghost use Rattle.std.specs.Prelude.{◌≡◌, ◌<◌, ◌++◌, ◌∷◌, [], Ok, IfOk, OnOk, IsTrue, map, option_map};
+ghost use Rattle.std.specs.Str.Lines.{lines};
+ghost use Rattle.word36.specs.declared.sizes.TheConstants.{MOST_REQUESTS};
+ghost use Rattle.lock_queue.specs.WellFormed.{is_call};
+ghost use Rattle.queue_script.specs.Borrowed.{owned_command};
+ghost use Rattle.queue_script.specs.QueueScripts.{call_effect, effect_of, unless_busy};
+ghost use Rattle.queue_script.specs.WellFormed.{is_well_formed};
+ghost use Rattle.script_reasons.specs.QueueLines.{explanation_in, line_explanations, explanation_of};
+ghost use Rattle.script_reasons.specs.Explanations.{as_explanation, judged};
+
+use crate::explanations::{Explanation, judge};
+use crate::sentences::say_explanation;
+use lock_bars::{MOST_LINES, ScriptError, ScriptLines};
+use lock_queue::{LockCall, LockTable};
+use lock_table::ProgramTable;
+use program_shell::PendingText;
+use queue_script::{CallRoom, Command, QueueService, read_command};
+use script_io::{Ending, LineService};
+use shown_bytes::shown_text;
+use std::alloc::{AllocError, Global};
+use wait_graph::requests_in;
+
+/// A line that was done.
+#[derive(Drop)]
+pub struct ExplainedLine {
+    /// What `lockmon queue` answers to it.
+    pub answers: Vec<u8>,
+    /// Why what it asks for is refused, or waits.
+    pub explanation: Option<Explanation>,
+}
+
+/// Why a table does not do a job's call, or does not grant it, at once.
+fn explanation_of_call<L: LockTable>(
+    alloc: Global,
+    table: &L,
+    job: u8,
+    call: &LockCall,
+) -> Result<Option<Explanation>, AllocError>
+    ensures { IfOk result (λ explanation. option_map as_explanation explanation ≡ judged (L.requests table.now) job call.now) }
+{
+    let requests = requests_in(alloc, table)?;
+    judge(alloc, requests.as_slice(), job, call)
+}
+
+/// Why a table does not do a command, or does not grant it, at once.
+fn explanation_of<L: LockTable>(
+    alloc: Global,
+    table: &L,
+    command: Option<Command<'_>>,
+) -> Result<Option<Explanation>, AllocError>
+    ensures { IfOk result (λ explanation. option_map as_explanation explanation
+        ≡ explanation_of (L.requests table.now) (owned_command command.entry)) }
+{
+    match command {
+        Some(Command::Call(job, _) | Command::Refused(job, _)) if table.is_waiting(job) => {
+            Ok(Some(Explanation::Busy(job)))
+        }
+        Some(Command::Call(job, call)) => explanation_of_call(alloc, table, job, call),
+        Some(Command::Refused(_, refusal) | Command::Status(_, Err(refusal))) => {
+            Ok(Some(Explanation::Wrong(refusal)))
+        }
+        _ => Ok(None),
+    }
+}
+
+/// Makes a job's call, unless the job waits.
+fn call_unless_busy<L: LockTable>(table: &mut L, job: u8, call: &LockCall)
+    requires { IsTrue (is_call job call.now) }
+    ensures { L.requests table.new
+        ≡ (unless_busy (L.requests table.old) job (call_effect L.REQS (L.requests table.old) job (Ok call.now))).requests }
+{
+    if !table.is_waiting(job) {
+        let _ = table.call(job, call);
+    }
+}
+
+/// Does a command. The answer is an ending where the script ends there.
+fn follow<L: LockTable>(
+    table: &mut L,
+    number: usize,
+    command: Option<Command<'_>>,
+) -> Option<Ending>
+    requires { IsTrue (is_well_formed (owned_command command)) }
+    ensures requests { L.requests table.new
+        ≡ (effect_of L.REQS number (L.requests table.old) (owned_command command.entry)).requests }
+    ensures ending { result ≡ (effect_of L.REQS number (L.requests table.old) (owned_command command.entry)).ending }
+{
+    let Some(command) = command else {
+        return Some(Ending::Script(number as u128));
+    };
+    match command {
+        Command::Quit => return Some(Ending::Done),
+        Command::Call(job, call) => call_unless_busy(table, job, call),
+        Command::Free(job) => table.release(job),
+        Command::Nothing
+        | Command::Refused(_, _)
+        | Command::Status(_, _)
+        | Command::Show
+        | Command::Waits => {}
+    }
+    None
+}
+
+/// Adds a line, with the explanation of its command on a table, and with what `lockmon queue` answers to it.
+fn add_line<L: LockTable>(
+    alloc: Global,
+    all: &mut Vec<ExplainedLine>,
+    table: &L,
+    service: &mut QueueService<L>,
+    number: usize,
+    line: &[u8],
+    command: Option<Command<'_>>,
+) -> Result<(), AllocError>
+    requires { 0 < number }
+    ensures { OnOk result (map explanation_in all.new.items
+        ≡ map explanation_in all.old.items ++ explanation_of (L.requests table.now) (owned_command command.entry) ∷ []) }
+{
+    let explanation = explanation_of(alloc, table, command)?;
+    let mut answers = Vec::new(alloc);
+    let _ = service.take_line(number as u128, line, &mut answers)?;
+    all.push(ExplainedLine {
+        answers,
+        explanation,
+    })?;
+    Ok(())
+}
+
+/// Does the lines of a script on two tables: the service answers by one of them, and the other explains.
+fn watch_lines<L: LockTable>(
+    alloc: Global,
+    table: &mut L,
+    service: &mut QueueService<L>,
+    script: &[u8],
+) -> Result<Vec<ExplainedLine>, ScriptError>
+    requires size { L.REQS ≡ MOST_REQUESTS }
+    requires empty { L.requests table.old ≡ [] }
+    ensures { IfOk result (λ all. map explanation_in all.items ≡ line_explanations script.now) }
+{
+    let mut room = CallRoom::new();
+    let mut all = Vec::new(alloc);
+    let mut lines = ScriptLines::of(script);
+    let mut count = 0;
+    while let Some(line) = lines.next() {
+        if count >= MOST_LINES {
+            return Err(ScriptError::TooLong);
+        }
+        count += 1;
+        let command = read_command(&mut room, line);
+        add_line(alloc, &mut all, table, service, count, line, command)?;
+        match follow(table, count, command) {
+            None => {}
+            Some(Ending::Done) => return Ok(all),
+            Some(Ending::Script(_) | Ending::Source(_)) => return Err(ScriptError::Line(count)),
+        }
+    }
+    Ok(all)
+}
+
+/// The lines of a script of `lockmon queue`, up to its end, each with the answers that `lockmon queue` gives, and with the
+/// explanation of a refusal or a wait, behind the requests that the lines before it have left. A script is refused at its
+/// first line that is not in the grammar, and where it has more than 10,000 lines.
+pub fn explain_lines(alloc: Global, script: &[u8]) -> Result<Vec<ExplainedLine>, ScriptError>
+    ensures { IfOk result (λ all. map explanation_in all.items ≡ line_explanations script.now) }
+{
+    let mut table = ProgramTable::new(alloc)?;
+    let mut service = QueueService::new(ProgramTable::new(alloc)?);
+    watch_lines(alloc, &mut table, &mut service, script)
+}
+
+/// Adds the answers to a line, each on a line of its own; behind the first stands the reason, if there is one.
+pub fn say_answers(text: &mut PendingText, answers: &[u8], reason: &PendingText) {
+    let mut reason = reason.as_bytes();
+    let mut lines = ScriptLines::of(answers);
+    while let Some(line) = lines.next() {
+        text.say("    ");
+        text.add(line);
+        if !reason.is_empty() {
+            text.say(": ");
+            text.add(reason);
+            reason = b"";
+        }
+        text.end_line();
+    }
+}
+
+/// Adds a line that was done, with its answers and their reason.
+fn say_line(text: &mut PendingText, line: &[u8], explained: &ExplainedLine) {
+    let alloc = text.alloc;
+    let mut reason = PendingText::new(alloc);
+    if let Some(explanation) = &explained.explanation {
+        say_explanation(&mut reason, explanation);
+    }
+    text.say_made(shown_text(alloc, line));
+    text.end_line();
+    say_answers(text, explained.answers.as_slice(), &reason);
+    if !reason.is_whole() {
+        text.fail();
+    }
+}
+
+/// Adds a script of `lockmon queue`, each line with the answers that `lockmon queue` gives to it, and behind each code
+/// and each WAIT the reason: which request, which lock and which rule. It is refused as by `explain_lines`.
+pub fn explain_script(
+    alloc: Global,
+    text: &mut PendingText,
+    script: &[u8],
+) -> Result<(), ScriptError> {
+    let explained = explain_lines(alloc, script)?;
+    let mut lines = ScriptLines::of(script);
+    for done in explained.as_slice() {
+        if let Some(line) = lines.next() {
+            say_line(text, line, done);
+        }
+    }
+    Ok(())
+}

@@ -1,0 +1,2 @@
+pub mod MadeCalls
+pub mod NextCalls
