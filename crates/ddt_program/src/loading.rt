@@ -10,8 +10,8 @@ use program_shell::PendingText;
 use shown_bytes::push_shown;
 use source_labels::{Assembled, MOST_REPORTED, Program, Source, warnings_of};
 
-/// Gives the programs of all files, sources and core images whose words are packed so, and reports what is wrong with them,
-/// and warnings; `None` where something is wrong.
+/// Gives the programs of all files, sources and core images whose words are packed so, and reports what sources have typed
+/// out by PRINTX, what is wrong with them, and warnings; `None` where something is wrong.
 fn assemble_all<'a>(
     report: &mut PendingText,
     sources: &[Source<'a>],
@@ -22,6 +22,7 @@ fn assemble_all<'a>(
         match read_program(report.alloc, source, from, MOST_REPORTED) {
             Ok(Assembled::Program(program)) => {
                 let file = program.file;
+                report.add(program.typed.as_slice());
                 report.say_made(warnings_of(report.alloc, file, &program.image, &program.places));
                 if programs.push(program).is_err() {
                     report.fail();
@@ -35,14 +36,15 @@ fn assemble_all<'a>(
 }
 
 /// Adds a job that was logged in.
-fn add_job(session: &mut Session, file: &str, shown: ShownJob) {
+fn add_job(session: &mut Session, file: &str, shown: ShownJob, written: Option<Vec<u8>>) {
     let alloc = session.alloc;
     let mut job = SessionJob {
         shown,
         file: String::new(alloc),
         symbols: Vec::new(alloc),
+        written,
     };
-    let is_whole = push_shown(&mut job.file, file.as_bytes()).is_ok() && job.add_labels().is_ok();
+    let is_whole = push_shown(&mut job.file, file.as_bytes()).is_ok() && job.add_symbols().is_ok();
     if session.jobs.push(job).is_err() || !is_whole {
         session.answer.fail();
     }
@@ -65,10 +67,12 @@ fn log_in(session: &mut Session, timeline: &mut Timeline, program: Program<'_>) 
         file,
         image,
         places,
+        written,
+        typed: _typed,
     } = program;
     match timeline.make(Entry::Login(line, image)) {
         Ok(Answer::JobNumber(number)) => {
-            add_job(session, file, ShownJob { number, places });
+            add_job(session, file, ShownJob { number, places }, written);
             true
         }
         Ok(answer) => {

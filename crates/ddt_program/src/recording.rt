@@ -41,7 +41,8 @@ impl ScriptHead {
             );
             return Ok(());
         }
-        match unquotable_line(source.text.as_slice()) {
+        let text = job.source_for(source.text.as_slice());
+        match unquotable_line(text) {
             Some(line) => {
                 let (number, reason) = (line.number, line.reason);
                 self.refusals.say_made(format!(in alloc;
@@ -49,12 +50,7 @@ impl ScriptHead {
                 ));
                 Ok(())
             }
-            None => push_program(
-                &mut self.text,
-                job.shown.number,
-                file,
-                source.text.as_slice(),
-            ),
+            None => push_program(&mut self.text, job.shown.number, file, text),
         }
     }
 

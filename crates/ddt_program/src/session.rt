@@ -18,20 +18,34 @@ pub struct SessionJob {
     pub shown: ShownJob,
     /// The name of its source's file, as it is shown.
     pub file: String,
-    /// Its labels, with their addresses.
+    /// Its labels, with their addresses, and its names for numbers.
     pub symbols: Vec<Symbol>,
+    /// The source that was written in place of its file's, if one was.
+    pub written: Option<Vec<u8>>,
 }
 
 impl SessionJob {
-    /// Fills its symbols with the labels of its source.
-    pub fn add_labels(&mut self) -> Result<(), AllocError> {
+    /// Fills its symbols with the labels of its source, and behind them the names for numbers.
+    pub fn add_symbols(&mut self) -> Result<(), AllocError> {
         for label in self.shown.places.labels.as_slice() {
             self.symbols.push(Symbol {
                 name: label.name,
                 value: Word::low_bits(u64::from(label.place.number())),
             })?;
         }
+        for number in self.shown.places.numbers.as_slice() {
+            let (name, value) = (number.name, number.value);
+            self.symbols.push(Symbol { name, value })?;
+        }
         Ok(())
+    }
+
+    /// The source that it stands for, where this is that of its file.
+    pub fn source_for<'s>(&'s self, own: &'s [u8]) -> &'s [u8] {
+        match &self.written {
+            Some(written) => written.as_slice(),
+            None => own,
+        }
     }
 }
 

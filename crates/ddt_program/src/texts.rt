@@ -1,8 +1,7 @@
 //! The texts of `--help` and `--version`, the banner and the prompt.
 
 /// What the program is.
-pub const PROGRAM: &str =
-    "A debugger in the manner of DDT for programs in a subset of MACRO-10 on a \
+pub const PROGRAM: &str = "A debugger in the manner of DDT for programs in MACRO-10 on a \
     DECsystem-10 (KA10): it goes back as well as on.";
 
 /// How the program is called.

@@ -8,8 +8,8 @@ use macro_operations::{of_dialect, of_subset};
 use macro_state::Assembly;
 use std::alloc::{AllocError, Global};
 
-/// Assembles a source in two passes. What is wrong with it is told by `faults`, none of which is there where the image
-/// is that of the source.
+/// Assembles a source in two passes. `faults` of the assembly has what is wrong with the source; it is empty where the
+/// image is that of the source.
 pub fn assemble(alloc: Global, source: &[u8]) -> Result<Assembly, AllocError> {
     let mut state = Assembly::new(alloc, source)?;
     match run_passes(&mut state, &mut Work::new(alloc)) {

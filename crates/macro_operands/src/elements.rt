@@ -9,7 +9,7 @@ use macro_operations::Text;
 use macro_state::{Assembly, Value};
 use word36::Word;
 
-/// Adds the word of XWD, or that of IOWD: the left half with its sign turned, the right half one less.
+/// Adds the word of XWD, or that of IOWD: the left half negated, the right half one less.
 pub fn push_pair(state: &mut Assembly, left: Option<Value>, right: Option<Value>, is_count: bool) {
     let mut left = or_zero(left);
     let mut right = or_zero(right);
@@ -140,7 +140,7 @@ impl Filling {
         }
     }
 
-    /// The same word, whose next bytes have this size.
+    /// Sets the size of the bytes that follow, in bits; what the word has so far stays.
     pub fn with_size(self, size: u64) -> Filling {
         Filling { size, ..self }
     }

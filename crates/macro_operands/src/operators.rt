@@ -91,7 +91,8 @@ pub fn start_of_value(state: &mut Assembly) -> Place {
 /// The sum or the difference of two values.
 #[tactic(auto, unfolding(crate::specs::Operands::summed_number))]
 fn summed(state: &mut Assembly, left: Value, right: Value, is_difference: bool) -> Value
-    ensures number { state.new.failure ≡ None → AreSummed is_difference state.old.numbers state.new.numbers left.number right.number result.number }
+    ensures number { state.new.failure ≡ None
+        → AreSummed is_difference state.old.numbers state.new.numbers left.number right.number result.number }
     ensures placed { result.placed ≡ (left.placed || right.placed) }
 {
     let placed = left.placed || right.placed;
@@ -150,7 +151,8 @@ fn applied(
     left: (Value, Place),
     right: (Value, Place),
 ) -> Value
-    ensures number { state.new.failure ≡ None → AreOperated operator state.old.numbers state.new.numbers left.0.number right.0.number result.number }
+    ensures number { state.new.failure ≡ None
+        → AreOperated operator state.old.numbers state.new.numbers left.0.number right.0.number result.number }
     ensures placed { result.placed ≡ (left.0.placed || right.0.placed) }
 {
     let one = as_word(state, left.0, left.1);
@@ -229,7 +231,8 @@ pub fn combined(
     left: (Value, Place),
     right: (Value, Place),
 ) -> Value
-    ensures number { state.new.failure ≡ None → AreCombined between state.old.numbers state.new.numbers left.0.number right.0.number result.number }
+    ensures number { state.new.failure ≡ None
+        → AreCombined between state.old.numbers state.new.numbers left.0.number right.0.number result.number }
     ensures placed { result.placed ≡ (left.0.placed || right.0.placed) }
 {
     match between {

@@ -6,7 +6,7 @@ use macro_assembly::assemble;
 use macro_output::{Written, push_cross, push_faults, push_listing, source_of};
 use macro_state::Assembly;
 use program_shell::{
-    DONE, FAILED, Failure, FailureLines, REFUSED, read_whole, refuse_arguments, report_failure,
+    DONE, FAILED, Failure, FailureLines, REFUSED, read_input, refuse_arguments, report_failure,
     report_to, write_output,
 };
 use script_io::{ByteIn, ByteOut, write_all};
@@ -144,10 +144,7 @@ fn read_source<F: Files + AllocGlobal, R: ByteIn, E: ByteOut>(
             Ok(source) => Ok(source),
             Err(error) => Err(report_file(alloc, file.as_str(), error, errors)),
         },
-        None => match read_whole(alloc, reader, usize::MAX) {
-            Ok(source) => Ok(source),
-            Err(failure) => Err(report_failure(errors, &FAILURE_LINES, failure)),
-        },
+        None => read_input(alloc, reader, usize::MAX, &FAILURE_LINES, errors),
     }
 }
 

@@ -24,7 +24,7 @@ fn symbol_value(state: &mut Assembly, name: Name, definition: Definition, place:
     }
 }
 
-/// A name without a value: the second pass tells of it.
+/// A name without a value: the second pass reports it.
 fn not_known(state: &mut Assembly, name: Name, place: Place) {
     if state.pass == 2 {
         state.fail(place, Fault::NotDefined(name));

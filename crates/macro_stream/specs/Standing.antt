@@ -1,6 +1,7 @@
 -- What a stack of texts stands for: all that comes up in it, from the highest text down to the source
 -- (MACRO-10 Assembler Manual, macros, REPEAT and IRP).
-use Rattle.std.specs.Prelude.{◌≡◌, ℕ, zero, suc, ◌+◌, ◌-◌, Bool, true, false, ◌&&◌, not, nat_lt, nat_eq, List, [], ◌∷◌, ◌++◌, length, get_or, reverse}
+use Rattle.std.specs.Prelude.{◌≡◌, ℕ, zero, suc, ◌+◌, ◌-◌, Bool, true, false, ◌&&◌, not, nat_lt, nat_eq, List, []}
+use Rattle.std.specs.Prelude.{◌∷◌, ◌++◌, length, get_or, reverse}
 use Rattle.std.specs.Prelude.{Option, Some, None, Result, Ok, Err, slice_get, if◌then◌else◌}
 use Rattle.macro_stream.specs.declared.texts.Range.{Range}
 use Rattle.macro_stream.specs.declared.frames.Arguments.{Arguments}

@@ -1,7 +1,11 @@
 //! The stack of texts, and its next character.
 
-ghost use Rattle.std.specs.Prelude.{◌≡◌, ℕ, ◌+◌, ◌<◌, ◌≤◌, ◌⊎◌, Some, None, Ok, Err, List, [], ◌∷◌, ◌++◌, length, IsSome, IfErr, OnOk, IfOk, IfSome, IsTrue, true, false, vec_len, slice_get};
-ghost use Rattle.macro_stream.specs.Standing.{store_of, argument_in, argument_of, range_of, text_at, argument_text, begun_text, round_of, standing, settled, rounds_begun, next_of, Event, Gives, IsBefore, text_of, source_text, entered_text, waiting_text, in_front};
+ghost use Rattle.std.specs.Prelude.{◌≡◌, ℕ, ◌+◌, ◌<◌, ◌≤◌, ◌⊎◌, Some, None, Ok, Err, List, [], ◌∷◌, ◌++◌, length};
+ghost use Rattle.std.specs.Prelude.{IsSome, IfErr, OnOk, IfOk, IfSome, IsTrue, true, false, vec_len, slice_get};
+ghost use Rattle.macro_stream.specs.Standing.{store_of, argument_in, argument_of, range_of, text_at, argument_text};
+ghost use Rattle.macro_stream.specs.Standing.{begun_text, round_of, standing, settled, rounds_begun, next_of, Event};
+ghost use Rattle.macro_stream.specs.Standing.{Gives, IsBefore, text_of, source_text, entered_text, waiting_text};
+ghost use Rattle.macro_stream.specs.Standing.{in_front};
 ghost use Rattle.macro_stream.specs.Limits.{counted_of};
 ghost use Rattle.macro_stream.specs.Steps.{StepGives, Stands};
 
@@ -318,7 +322,8 @@ impl Stream {
     pub fn enter_source(&mut self, range: Range, line: u32, column: u32) -> Result<(), Stop>
         ensures deep { 200 ≤ length self.old.lower.items + 1 → result ≡ Err (Stop.Limit Limit.Depth) }
         ensures failed { length self.old.lower.items + 1 < 200 → IfErr result (λ stop. stop ≡ Stop.Memory) }
-        ensures front { OnOk result (standing self.new ≡ in_front self.old (entered_text (store_of self.old) Kind.Source range self.old.top.arguments)) }
+        ensures front { OnOk result (standing self.new
+            ≡ in_front self.old (entered_text (store_of self.old) Kind.Source range self.old.top.arguments)) }
         ensures rest { OnOk result (self.new ≡ record self.old { lower = self.new.lower; top = self.new.top }) }
     {
         let top = self.top;
@@ -411,13 +416,16 @@ impl Stream {
     /// Begins the next round of the highest text. False where it has none.
     fn next_round(&mut self) -> Result<bool, Stop>
         ensures none { round_of (store_of self.old) (text_at self.old.top) ≡ None → (result ≡ Ok false) × (self.new ≡ self.old) }
-        ensures full { IsSome (round_of (store_of self.old) (text_at self.old.top)) → 50_000 ≤ self.old.calls → result ≡ Err (Stop.Limit Limit.Calls) }
+        ensures full { IsSome (round_of (store_of self.old) (text_at self.old.top)) → 50_000 ≤ self.old.calls
+            → result ≡ Err (Stop.Limit Limit.Calls) }
         ensures begun { IsSome (round_of (store_of self.old) (text_at self.old.top)) → self.old.calls < 50_000 → result ≡ Ok true }
         ensures low { IfOk result (λ begun. IsTrue begun → self.old.calls < 50_000) }
-        ensures over { IfOk result (λ begun. begun ≡ false → (round_of (store_of self.old) (text_at self.old.top) ≡ None) × (self.new ≡ self.old)) }
+        ensures over { IfOk result (λ begun. begun ≡ false
+            → (round_of (store_of self.old) (text_at self.old.top) ≡ None) × (self.new ≡ self.old)) }
         ensures told { IfErr result (λ stop. (stop ≡ Stop.Limit Limit.Calls) × (50_000 ≤ self.old.calls)) }
         ensures due { IfErr result (λ _. round_of (store_of self.old) (text_at self.old.top) ≡ None → ⊥) }
-        ensures top { IfOk result (λ begun. IsTrue begun → round_of (store_of self.old) (text_at self.old.top) ≡ Some (text_at self.new.top)) }
+        ensures top { IfOk result (λ begun. IsTrue begun
+            → round_of (store_of self.old) (text_at self.old.top) ≡ Some (text_at self.new.top)) }
         ensures rest { IfOk result (λ begun. IsTrue begun → self.new ≡ record self.old { top = self.new.top; calls = self.old.calls + 1 }) }
     {
         match self.top.rounds {

@@ -64,7 +64,7 @@ impl Definitions {
         self.by_name.len()
     }
 
-    /// The name in SIXBIT, and the definition, at a place of the order.
+    /// The name in SIXBIT, and the definition, at an index of the order.
     pub fn at(&self, index: usize) -> Option<(u64, Definition)>
         ensures { result ≡ slice_get self.now index }
     {

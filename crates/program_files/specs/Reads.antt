@@ -1,5 +1,9 @@
--- How an answer tells the image that was read.
-use Rattle.std.specs.Prelude.{◌≡◌, ℕ, List, Option, Result, Ok, Err}
+-- How an answer tells the image that was read, and what came of a source.
+use Rattle.std.specs.Prelude.{◌≡◌, ℕ, List, Option, None, Result, Ok, Err, IsOk, IsErr, IsSome}
+use Rattle.mac_asm.specs.Outcome.{outcome_of}
+use Rattle.source_check.specs.Same.{ComesTo}
+use Rattle.source_labels.specs.Programs.{source_for}
+use Rattle.source_labels.specs.declared.sources.Program.{Program}
 use Rattle.image_files.specs.Loads.{loaded}
 use Rattle.image_files.specs.Saves.{Loaded}
 use Rattle.image_files.specs.declared.packings.Packing.{Packing}
@@ -25,3 +29,21 @@ Answers (Err e) file other read = Unit {0}
 -- the same of the bytes of a file of this name, in a packing
 abbrev pub AnswersImage : {E : Type 0} → Result Assembled E → List ℕ → Packing → List ℕ → Type 0
 AnswersImage result file from bytes = Answers result file (packing_that_fits wants.Image bytes) (image_in from bytes)
+
+-- a program has exactly the image of the source that it stands for, and stands for that of its file where that has one; a
+-- source is refused only where it has none; where there was no memory nothing is told
+abbrev pub AnswersSource : {E : Type 0} → Result Assembled E → List ℕ → Type 0
+AnswersSource (Ok (variants.Program program)) own =
+    ComesTo (source_for program own) program.image × (IsOk (outcome_of own) → program.written ≡ None)
+AnswersSource (Ok (variants.Refused text)) own = IsErr (outcome_of own)
+AnswersSource (Err e) own = Unit {0}
+
+-- a source was written that the program stands for, whatever that of its file is, and comes to exactly its image
+abbrev pub HasWritten : Program → Type 0
+HasWritten program = IsSome program.written × ((own : List ℕ) → ComesTo (source_for program own) program.image)
+
+-- a program, if there is one, has such a source
+abbrev pub HandsOver : {E : Type 0} → Result Assembled E → Type 0
+HandsOver (Ok (variants.Program program)) = HasWritten program
+HandsOver (Ok (variants.Refused text)) = Unit {0}
+HandsOver (Err e) = Unit {0}

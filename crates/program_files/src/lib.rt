@@ -1,9 +1,12 @@
-//! What a file holds as a program: a source in the subset of MACRO-10, or a core image.
+//! What a file holds as a program: a source in the subset of MACRO-10 or in MACRO-10, or a core image.
 #![tactic(auto)]
 
 mod from_option;
+mod macro_sources;
 mod names;
 mod programs;
+mod tellers;
+mod told;
 
 pub use from_option::{make_from, packing_in};
 pub use names::is_image_name;

@@ -1,13 +1,12 @@
 //! The programs of files.
 ghost use Rattle.std.specs.Prelude.{◌≡◌};
-ghost use Rattle.mac_asm.specs.Outcome.{outcome_of};
-ghost use Rattle.source_labels.specs.Programs.{AssemblesTo};
 ghost use Rattle.program_files.specs.Files.{IsImageName, IsSourceName};
-ghost use Rattle.program_files.specs.Reads.{AnswersImage};
+ghost use Rattle.program_files.specs.Reads.{AnswersImage, AnswersSource};
 
+use crate::macro_sources::assemble_macro;
 use crate::names::is_image_name;
 use image_files::{ImageError, Packing, Wanted, fault_text, packing_that_fits, read_image};
-use source_labels::{Assembled, Literals, Places, Program, Source, assemble_source};
+use source_labels::{Assembled, Literals, Places, Program, Source, Tried, assemble_source};
 use std::alloc::{AllocError, Global};
 use word36::Image;
 
@@ -21,7 +20,10 @@ fn program_with<'a>(alloc: Global, file: &'a str, image: Image) -> Program<'a>
         places: Places {
             labels: Vec::new(alloc),
             literals: Literals { first: 0, end: 0 },
+            numbers: Vec::new(alloc),
         },
+        written: None,
+        typed: Vec::new(alloc),
     }
 }
 
@@ -43,9 +45,25 @@ fn load_image<'a>(
     }
 }
 
+/// The program of a source, in the subset or else in MACRO-10, or what is wrong with it.
+#[tactic(auto, using(crate::proofs::Sources::own_source, crate::proofs::Sources::other_source))]
+fn load_source<'a>(
+    alloc: Global,
+    file: &Source<'a>,
+    most: usize,
+) -> Result<Assembled<'a>, AllocError>
+    ensures { AnswersSource result file.now.text.items }
+{
+    match assemble_source(alloc, file)? {
+        Tried::Program(program) => Ok(Assembled::Program(program)),
+        Tried::Fault(first) => assemble_macro(alloc, file, first, most),
+    }
+}
+
 /// The program of a file, by its name and its bytes. A name in `.sav` is that of a core image, whose words are packed so:
-/// the program has its words and its start, and no labels. Any other is that of a source, which is assembled. A file that is
-/// refused is no error: the text says what is wrong with it, and has `most` faults of a source at most.
+/// the program has its words and its start, and no labels. Any other is that of a source: in the subset, or else in
+/// MACRO-10, for which a source of the subset is written that the program stands for from there on. A file that is refused
+/// is no error: the text says what is wrong with it, and has `most` faults of a source at most.
 pub fn read_program<'a>(
     alloc: Global,
     file: &Source<'a>,
@@ -53,11 +71,11 @@ pub fn read_program<'a>(
     most: usize,
 ) -> Result<Assembled<'a>, AllocError>
     ensures image { IsImageName file.now.file.now → AnswersImage result file.now.file.now from file.now.text.items }
-    ensures source { IsSourceName file.now.file.now → AssemblesTo result (outcome_of file.now.text.items) }
+    ensures source { IsSourceName file.now.file.now → AnswersSource result file.now.text.items }
 {
     if is_image_name(file.file) {
         load_image(alloc, file, from)
     } else {
-        assemble_source(alloc, file, most)
+        load_source(alloc, file, most)
     }
 }

@@ -1,5 +1,5 @@
-//! What is wrong with a source of the assembler, in words for a person: worked out from a line and the
-//! code of its fault alone.
+//! What is wrong with a source of the assembler, in words for a person: worked out from a line, the code of its fault
+//! and, where it is at hand, the source.
 #![tactic(auto)]
 
 mod any_fault;

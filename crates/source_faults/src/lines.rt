@@ -57,7 +57,7 @@ fn first_of<'a>(one: Result<(), Fault<'a>>, other: Result<(), Fault<'a>>) -> Res
     }
 }
 
-/// The fault of a line that is in the grammar: none is found.
+/// What is seen of a line whose numbers are in decimal, whatever fault it has: its labels, names and values.
 fn seen(line: &[u8]) -> Cursor<'_> {
     let (cursor, _) = read(line, 10, &[]);
     cursor

@@ -175,7 +175,7 @@ fn read_word_term<'a>(cursor: &mut Cursor<'a>) -> Result<Option<i64>, Fault<'a>>
     Ok(Some(read_number(cursor, radix, TERM)?))
 }
 
-/// The sum of two terms, of which the second may be taken away; `None` where one is no number.
+/// The sum of two terms, or with `is_minus` their difference; `None` where one is no number.
 fn added(sum: Option<i64>, term: Option<i64>, is_minus: bool) -> Option<i64> {
     match (sum, term) {
         (Some(sum), Some(term)) if is_minus => Some(sum.saturating_sub(term)),

@@ -1,14 +1,29 @@
--- What a source is assembled to.
-use Rattle.std.specs.Prelude.{◌≡◌, Result, Ok, Err, IsErr}
+-- What a source is assembled to, and which source a program stands for.
+use Rattle.std.specs.Prelude.{◌≡◌, ℕ, List, Vec, Option, Some, None, Result, Ok, Err, IsErr}
 use Rattle.mac_layout.specs.Faults.{Fault}
 use Rattle.mac_asm.specs.Assembly as assembly
-use Rattle.source_labels.specs.declared.sources.Assembled.{Assembled}
-use Rattle.source_labels.specs.declared.sources.Assembled.TheVariants as variants
+use Rattle.source_labels.specs.declared.sources.Program.{Program}
+use Rattle.source_labels.specs.declared.sources.Tried.{Tried}
+use Rattle.source_labels.specs.declared.sources.Tried.TheVariants as variants
 
 -- a program has the image of its source, and a source is refused only where it has none; where there was no memory nothing is
 -- told
-abbrev pub AssemblesTo : {E : Type 0} → Result Assembled E → Result assembly.Assembled Fault → Type 0
+abbrev pub AssemblesTo : {E : Type 0} → Result Tried E → Result assembly.Assembled Fault → Type 0
 AssemblesTo (Ok (variants.Program program)) outcome =
     outcome ≡ Ok (record { words = program.image.words.items; start = program.image.start })
-AssemblesTo (Ok (variants.Refused text)) outcome = IsErr outcome
+AssemblesTo (Ok (variants.Fault fault)) outcome = IsErr outcome
 AssemblesTo (Err e) outcome = Unit {0}
+
+-- no other source was written in place of that of the file
+abbrev pub KeepsOwn : Tried → Type 0
+KeepsOwn (variants.Program program) = program.written ≡ None
+KeepsOwn (variants.Fault fault) = Unit {0}
+
+-- the bytes of a text that was written, or else these
+abbrev pub written_or : {A : Type 0} → List ℕ → Option (Vec ℕ A) → List ℕ
+written_or own (Some written) = written.items
+written_or own None = own
+
+-- the source that a program stands for: the one that was written in place of its file's, or its file's
+abbrev pub source_for : Program → List ℕ → List ℕ
+source_for program own = written_or own program.written

@@ -25,6 +25,15 @@ pub struct Fault {
     pub code: AsmCode,
 }
 
+/// The line and the column of what is wrong, counted from 1. The line is 0 where the source has none.
+#[derive(Clone, Copy)]
+pub struct ErrorPlace {
+    /// The line.
+    pub line: usize,
+    /// The column, in bytes.
+    pub column: usize,
+}
+
 /// The first fault of a source, if it has one.
 fn first_fault(alloc: Global, text: &[u8]) -> Result<Option<Fault>, AllocError> {
     match assemble(alloc, text) {
@@ -123,8 +132,30 @@ fn push_line(text: &mut String, line: &[u8], column: usize) -> Result<(), AllocE
     text.push_str("^\n")
 }
 
-/// Adds the lines on a fault: `FILE:LINE:COLUMN: error: what is wrong (code n)`; the source's line with a caret
-/// below, if it is not empty; and advice, if there is any.
+/// Adds the lines on what is wrong at a column of a line: `FILE:LINE:COLUMN: error:` with what it is, and with its mark in
+/// parentheses, if it has one; and the source's line with a caret below, if it is not empty.
+pub fn push_error(
+    text: &mut String,
+    source: &Source<'_>,
+    place: ErrorPlace,
+    reason: &str,
+    mark: &str,
+) -> Result<(), AllocError> {
+    let line = line_at(source.text.as_slice(), place.line);
+    let (file, number, column) = (source.file, place.line.max(1), place.column);
+    write!(text, "{file}:{number}:{column}: error: {reason}")?;
+    if !mark.is_empty() {
+        write!(text, " ({mark})")?;
+    }
+    text.push('\n')?;
+    if line.is_empty() {
+        Ok(())
+    } else {
+        push_line(text, line, column)
+    }
+}
+
+/// Adds the lines on a fault, with its code, and advice, if there is any.
 fn push_fault(
     alloc: Global,
     text: &mut String,
@@ -132,49 +163,45 @@ fn push_fault(
     fault: Fault,
 ) -> Result<(), AllocError> {
     let whole = source.text.as_slice();
-    let line = line_at(whole, fault.line);
     let code = fault.code.number();
-    let located = locate(alloc, code, line, whole)?;
-    let (file, number, column) = (source.file, fault.line.max(1), located.column);
-    let reason = located.text.as_str();
-    write!(
-        text,
-        "{file}:{number}:{column}: error: {reason} (code {code})\n"
-    )?;
-    if !line.is_empty() {
-        push_line(text, line, column)?;
-    }
+    let located = locate(alloc, code, line_at(whole, fault.line), whole)?;
+    let place = ErrorPlace {
+        line: fault.line,
+        column: located.column,
+    };
+    let mark = format!(in alloc; "code {code}")?;
+    push_error(text, source, place, located.text.as_str(), mark.as_str())?;
     match located.hint {
         Some(hint) => write!(text, "    {hint}\n"),
-        None => push_advice(alloc, text, whole, fault, column),
+        None => push_advice(alloc, text, whole, fault),
     }
 }
 
-/// Adds advice on a fault at a column, if there is any.
+/// Adds advice on a fault, if there is any.
 fn push_advice(
     alloc: Global,
     text: &mut String,
     source: &[u8],
     fault: Fault,
-    column: usize,
 ) -> Result<(), AllocError> {
-    match advice_of(alloc, source, fault, column)? {
+    match advice_of(alloc, source, fault)? {
         Some(advice) => write!(text, "    {}\n", advice.as_str()),
         None => Ok(()),
     }
 }
 
-/// Adds how many faults there are beyond those that are reported.
-fn push_more(text: &mut String, file: &str, count: usize, most: usize) -> Result<(), AllocError> {
+/// Adds how many faults there are beyond those that are reported: `least` stands before the number where there may be more.
+pub fn push_more(
+    text: &mut String,
+    file: &str,
+    count: usize,
+    most: usize,
+    least: &str,
+) -> Result<(), AllocError> {
     let more = count.saturating_sub(most);
     if more == 0 {
         return Ok(());
     }
-    let least = if count < MOST_COUNTED {
-        ""
-    } else {
-        "at least "
-    };
     write!(text, "{file}: {least}{more} more\n")
 }
 
@@ -190,7 +217,7 @@ fn insert_by_line(faults: &mut Vec<Fault>, fault: Fault) -> Result<(), AllocErro
 }
 
 /// The faults of a source, by line, as far as they are counted. `first` is the one that the assembler reports.
-fn faults_of(alloc: Global, source: &[u8], first: Fault) -> Result<Vec<Fault>, AllocError> {
+pub fn faults_of(alloc: Global, source: &[u8], first: Fault) -> Result<Vec<Fault>, AllocError> {
     let mut faults = Vec::new(alloc);
     let mut rest = Vec::from_slice(alloc, source)?;
     let mut fault = first;
@@ -207,19 +234,29 @@ fn faults_of(alloc: Global, source: &[u8], first: Fault) -> Result<Vec<Fault>, A
     Ok(faults)
 }
 
-/// What is wrong with a source, in whole lines, by line: `most` of its faults, and how many more there are. `first` is the
-/// one that the assembler reports.
+/// The column of a fault of a source.
+pub fn column_of(alloc: Global, source: &[u8], fault: Fault) -> Result<usize, AllocError> {
+    let line = line_at(source, fault.line);
+    let located = locate(alloc, fault.code.number(), line, source)?;
+    Ok(located.column)
+}
+
+/// What is wrong with a source that has these faults, in whole lines: `most` of them, and how many more there are.
 pub fn faults_text(
     alloc: Global,
     source: &Source<'_>,
-    first: Fault,
+    faults: &[Fault],
     most: usize,
 ) -> Result<String, AllocError> {
     let mut report = String::new(alloc);
-    let faults = faults_of(alloc, source.text.as_slice(), first)?;
-    for fault in faults.as_slice().iter().take(most) {
+    for fault in faults.iter().take(most) {
         push_fault(alloc, &mut report, source, *fault)?;
     }
-    push_more(&mut report, source.file, faults.len(), most)?;
+    let least = if faults.len() < MOST_COUNTED {
+        ""
+    } else {
+        "at least "
+    };
+    push_more(&mut report, source.file, faults.len(), most, least)?;
     Ok(report)
 }

@@ -13,9 +13,14 @@ mod sources;
 mod spots;
 mod warnings;
 
-pub use faults::MOST_REPORTED;
+pub use advice::{advice_on_label, advice_on_word};
+pub use faults::{
+    ErrorPlace, Fault, MOST_REPORTED, column_of, faults_of, faults_text, push_error, push_more,
+};
 pub use labels::{Label, nearest};
-pub use places::{Literals, Places};
-pub use sources::{Assembled, Program, Source, assemble_source};
+pub use lines::{is_assignment, statement_at, word_of};
+pub use near_names::are_near;
+pub use places::{Literals, NamedNumber, Places};
+pub use sources::{Assembled, Program, Source, Tried, assemble_source, places_in};
 pub use spots::Spot;
 pub use warnings::warnings_of;

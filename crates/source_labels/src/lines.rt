@@ -86,3 +86,13 @@ pub fn behind_labels(line: &[u8]) -> &[u8] {
     }
     rest
 }
+
+/// The statement of the line of this number, behind its labels and blanks.
+pub fn statement_at(source: &[u8], number: usize) -> &[u8] {
+    without_blanks(behind_labels(line_at(source, number)))
+}
+
+/// Whether a statement gives a name a number, as MACRO-10 writes it.
+pub fn is_assignment(statement: &[u8]) -> bool {
+    matches!(without_blanks(behind_word(statement)), [b'=', ..])
+}

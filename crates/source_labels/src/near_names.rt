@@ -54,8 +54,8 @@ fn has_same_characters(one: &[u8], other: &[u8]) -> bool {
     one.iter().all(|c| other.contains(c)) && other.iter().all(|c| one.contains(c))
 }
 
-/// Whether two names of at least three characters differ by one slip.
-fn are_near(one: &[u8], other: &[u8]) -> bool {
+/// Whether two names of at least three characters, in upper case, differ by one slip.
+pub fn are_near(one: &[u8], other: &[u8]) -> bool {
     if one.len() < 3 || other.len() < 3 {
         return false;
     }

@@ -4,7 +4,7 @@ use crate::labels::Label;
 use mac_layout::{Layout, MEMORY_SIZE, clamped};
 use mac_text::{Line, Statement};
 use std::alloc::{AllocError, Global};
-use word36::{Address, Image};
+use word36::{Address, Image, Word};
 
 /// The addresses of literals: `first` .. `end`.
 #[derive(Clone, Copy, Debug, PartialEq, Eq)]
@@ -15,13 +15,24 @@ pub struct Literals {
     pub end: u32,
 }
 
-/// The labels and the literals of a source.
+/// A name of a source that stands for a number, and for no place.
+#[derive(Clone, Copy, Debug)]
+pub struct NamedNumber {
+    /// Its six characters in SIXBIT, as a label has them.
+    pub name: u64,
+    /// The number.
+    pub value: Word,
+}
+
+/// The labels and the literals of a source, and its names for numbers.
 #[derive(Debug, Drop)]
 pub struct Places {
     /// The labels, in the order of their definitions.
     pub labels: Vec<Label>,
     /// The literals.
     pub literals: Literals,
+    /// The names that stand for numbers. No place is shown by them.
+    pub numbers: Vec<NamedNumber>,
 }
 
 impl Literals {
@@ -105,5 +116,6 @@ pub fn places_of(
                 end
             },
         },
+        numbers: Vec::new(alloc),
     })
 }

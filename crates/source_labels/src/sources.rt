@@ -1,8 +1,9 @@
 //! Sources, and what they are assembled to.
+ghost use Rattle.std.specs.Prelude.{◌≡◌, None, IfOk};
 ghost use Rattle.mac_asm.specs.Outcome.{outcome_of};
-ghost use Rattle.source_labels.specs.Programs.{AssemblesTo};
+ghost use Rattle.source_labels.specs.Programs.{AssemblesTo, source_for, KeepsOwn};
 
-use crate::faults::{Fault, faults_text};
+use crate::faults::Fault;
 use crate::places::{Places, places_of};
 use mac_asm::{AsmError, assemble};
 use mac_layout::lay_out;
@@ -28,9 +29,25 @@ pub struct Program<'a> {
     pub image: Image,
     /// Its labels and literals.
     pub places: Places,
+    /// The source that was written in place of the file's, if one was: the program stands for that.
+    pub written: Option<Vec<u8>>,
+    /// What the source had typed out while it was assembled.
+    pub typed: Vec<u8>,
 }
 
-/// The outcome of assembling a source.
+impl Program<'_> {
+    /// The source that the program stands for, where this is that of its file.
+    pub fn source_for<'s>(&'s self, own: &'s [u8]) -> &'s [u8]
+        ensures { result.now ≡ source_for self.now own.now }
+    {
+        match &self.written {
+            Some(written) => written.as_slice(),
+            None => own,
+        }
+    }
+}
+
+/// What comes of a file.
 #[derive(Drop)]
 pub enum Assembled<'a> {
     /// A program.
@@ -39,9 +56,18 @@ pub enum Assembled<'a> {
     Refused(Vec<u8>),
 }
 
+/// What the assembler of the subset makes of a source.
+#[derive(Drop)]
+pub enum Tried<'a> {
+    /// A program.
+    Program(Program<'a>),
+    /// The fault that it reports.
+    Fault(Fault),
+}
+
 /// The labels and literals of a source of which this is the image. It is in the grammar and laid out, as it was
 /// assembled, so that only memory can be missing.
-fn places_in(alloc: Global, text: &[u8], image: &Image) -> Result<Places, AllocError> {
+pub fn places_in(alloc: Global, text: &[u8], image: &Image) -> Result<Places, AllocError> {
     let Ok(lines) = parse(alloc, text) else {
         return Err(AllocError);
     };
@@ -51,30 +77,24 @@ fn places_in(alloc: Global, text: &[u8], image: &Image) -> Result<Places, AllocE
     places_of(alloc, lines.as_slice(), &layout, image)
 }
 
-/// Assembles a source. One that is refused is no error: the text says what is wrong with it, and has `most` of its faults at
-/// most.
-pub fn assemble_source<'a>(
-    alloc: Global,
-    source: &Source<'a>,
-    most: usize,
-) -> Result<Assembled<'a>, AllocError>
-    ensures { AssemblesTo result (outcome_of source.now.text.items) }
+/// Assembles a source. One that is refused is no error.
+pub fn assemble_source<'a>(alloc: Global, source: &Source<'a>) -> Result<Tried<'a>, AllocError>
+    ensures outcome { AssemblesTo result (outcome_of source.now.text.items) }
+    ensures own { IfOk result KeepsOwn }
 {
     let text = source.text.as_slice();
     match assemble(alloc, text) {
         Ok(image) => {
             let places = places_in(alloc, text, &image)?;
-            Ok(Assembled::Program(Program {
+            Ok(Tried::Program(Program {
                 file: source.file,
                 image,
                 places,
+                written: None,
+                typed: Vec::new(alloc),
             }))
         }
-        Err(AsmError::Line { line, code }) => {
-            let first = Fault { line, code };
-            let text = faults_text(alloc, source, first, most)?;
-            Ok(Assembled::Refused(text.into_bytes()))
-        }
+        Err(AsmError::Line { line, code }) => Ok(Tried::Fault(Fault { line, code })),
         Err(AsmError::Memory) => Err(AllocError),
     }
 }

@@ -4,25 +4,21 @@
 mod terminal;
 
 use crate::terminal::Terminal;
-use program_shell::{Answers, LineReader, arguments_of, unread_arguments};
+use program_shell::{Answers, Failure, LineReader, arguments_or_status, report_failure};
 use script_io::{HostIn, HostOut};
-use std::io::ErrorKind;
 use std::process::ExitCode;
 use ten_program::{FAILURE_LINES, ten};
 
 fn main(rt: HostRuntime) -> ExitCode {
     let alloc = rt.alloc();
     let mut errors = HostOut::new(rt.stderr());
-    let arguments = match arguments_of(&rt) {
+    let arguments = match arguments_or_status(&rt, FAILURE_LINES.memory, &mut errors) {
         Ok(arguments) => arguments,
-        Err(error) => {
-            let status = unread_arguments(error.kind(), FAILURE_LINES.memory, &mut errors);
-            return ExitCode::from(status);
-        }
+        Err(status) => return ExitCode::from(status),
     };
     let Ok(input) = LineReader::new(alloc, HostIn::new(rt.stdin())) else {
-        let kind = ErrorKind::OutOfMemory;
-        return ExitCode::from(unread_arguments(kind, FAILURE_LINES.memory, &mut errors));
+        let status = report_failure(&mut errors, &FAILURE_LINES, Failure::Memory);
+        return ExitCode::from(status);
     };
     let mut terminal = Terminal {
         rt: &rt,

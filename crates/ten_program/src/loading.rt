@@ -13,8 +13,9 @@ use run_record::RunEvent;
 use source_labels::{Assembled, Program, Source, warnings_of};
 use word36::{Address, Image};
 
-/// Gives the programs of files: sources, which it assembles, and core images, whose words are packed so. Reports what is
-/// wrong with each file that is refused, `most` faults of each source; then there are none.
+/// Gives the programs of files: sources, which it assembles, and core images, whose words are packed so. Reports what sources
+/// have typed out by PRINTX, and what is wrong with each file that is refused, `most` faults of each source; then there are
+/// none.
 pub fn assemble_all<'a>(
     sources: &[Source<'a>],
     from: Packing,
@@ -27,6 +28,7 @@ pub fn assemble_all<'a>(
     for source in sources {
         match read_program(alloc, source, from, most) {
             Ok(Assembled::Program(program)) => {
+                errors.add(program.typed.as_slice());
                 let (file, image, places) = (program.file, &program.image, &program.places);
                 errors.say_made(warnings_of(alloc, file, image, places));
                 if programs.push(program).is_err() {

@@ -112,13 +112,12 @@ fn write_picture<H: Host>(
 fn write_script<H: Host>(
     host: &mut H,
     session: &mut Session,
-    sources: &[Source<'_>],
     options: &Options<'_>,
     status: u8,
 ) -> Result<u8, Failure> {
     let Ok(script) = session
         .recording
-        .script(session.errors.alloc, options.config, sources)
+        .script(session.errors.alloc, options.config)
     else {
         return Err(Failure::Memory);
     };
@@ -147,7 +146,7 @@ fn serve_sources<H: Host>(
     }
     let status = run_jobs(host, session, machine, options)?;
     let drawn = write_picture(host, session, machine, options.picture, status)?;
-    write_script(host, session, sources, options, drawn)
+    write_script(host, session, options, drawn)
 }
 
 /// Reads the sources that the options name, runs them, and gives the exit status.

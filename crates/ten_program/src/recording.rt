@@ -6,7 +6,7 @@ use program_shell::PendingText;
 use run_record::{
     EventSequence, RunEvent, push_end, push_head, push_pieces, push_program, unquotable_line,
 };
-use source_labels::Source;
+use source_labels::{Program, Source};
 use std::alloc::{AllocError, Global};
 
 /// The events of a run, where they are recorded.
@@ -14,6 +14,8 @@ use std::alloc::{AllocError, Global};
 pub struct Recording {
     /// What happened, if it is recorded.
     events: Option<EventSequence>,
+    /// The programs, as the script begins with them.
+    programs: Vec<u8>,
     /// Whether there was memory for all of it.
     is_whole: bool,
 }
@@ -28,7 +30,15 @@ impl Recording {
         };
         Recording {
             events,
+            programs: Vec::new(alloc),
             is_whole: true,
+        }
+    }
+
+    /// Takes down the programs of these sources, where the run is recorded.
+    pub fn add_programs(&mut self, sources: &[Source<'_>], programs: &[Program<'_>]) {
+        if self.events.is_some() {
+            self.is_whole &= push_programs(&mut self.programs, sources, programs).is_ok();
         }
     }
 
@@ -39,20 +49,15 @@ impl Recording {
         }
     }
 
-    /// The run of these sources on a machine of this size as a script, where it is recorded.
-    pub fn script(
-        &self,
-        alloc: Global,
-        config: Config,
-        sources: &[Source<'_>],
-    ) -> Result<Option<Vec<u8>>, AllocError> {
+    /// The run on a machine of this size as a script, where it is recorded.
+    pub fn script(&self, alloc: Global, config: Config) -> Result<Option<Vec<u8>>, AllocError> {
         match &self.events {
             None => Ok(None),
             Some(_) if !self.is_whole => Err(AllocError),
             Some(events) => {
                 let mut script = Vec::new(alloc);
                 push_head(&mut script, config.blocks(), config.quantum())?;
-                push_programs(&mut script, sources)?;
+                script.extend_from_slice(self.programs.as_slice())?;
                 push_pieces(&mut script, events.pieces())?;
                 push_end(&mut script)?;
                 Ok(Some(script))
@@ -61,18 +66,23 @@ impl Recording {
     }
 }
 
-/// Adds the sources, as programs that are numbered from 1.
-fn push_programs(script: &mut Vec<u8>, sources: &[Source<'_>]) -> Result<(), AllocError> {
+/// Adds the sources that programs stand for, as programs that are numbered from 1.
+fn push_programs(
+    script: &mut Vec<u8>,
+    sources: &[Source<'_>],
+    programs: &[Program<'_>],
+) -> Result<(), AllocError> {
     let mut number = 0u8;
-    for source in sources {
+    for (source, program) in sources.iter().zip(programs) {
         number = number.saturating_add(1);
-        push_program(script, number, source.file, source.text.as_slice())?;
+        let text = program.source_for(source.text.as_slice());
+        push_program(script, number, source.file, text)?;
     }
     Ok(())
 }
 
-/// Whether a source can stand in a script; reports why it cannot.
-fn is_quotable(source: &Source<'_>, errors: &mut PendingText) -> bool {
+/// Whether the source that a program stands for can stand in a script; reports why it cannot.
+fn is_quotable(source: &Source<'_>, program: &Program<'_>, errors: &mut PendingText) -> bool {
     let (alloc, file) = (errors.alloc, source.file);
     if is_image_name(file) {
         errors.say_made(format!(in alloc;
@@ -80,7 +90,7 @@ fn is_quotable(source: &Source<'_>, errors: &mut PendingText) -> bool {
         ));
         return false;
     }
-    match unquotable_line(source.text.as_slice()) {
+    match unquotable_line(program.source_for(source.text.as_slice())) {
         None => true,
         Some(line) => {
             let (number, reason) = (line.number, line.reason);
@@ -92,11 +102,15 @@ fn is_quotable(source: &Source<'_>, errors: &mut PendingText) -> bool {
     }
 }
 
-/// Whether all sources can stand in a script; reports of each that cannot why.
-pub fn are_quotable(sources: &[Source<'_>], errors: &mut PendingText) -> bool {
+/// Whether the sources that programs stand for can all stand in a script; reports of each that cannot why.
+pub fn are_quotable(
+    sources: &[Source<'_>],
+    programs: &[Program<'_>],
+    errors: &mut PendingText,
+) -> bool {
     let mut are_quotable = true;
-    for source in sources {
-        are_quotable &= is_quotable(source, errors);
+    for (source, program) in sources.iter().zip(programs) {
+        are_quotable &= is_quotable(source, program, errors);
     }
     are_quotable
 }

@@ -105,10 +105,12 @@ impl Session {
         else {
             return false;
         };
-        if options.record.is_some() && !are_quotable(sources, &mut self.errors) {
+        let made = programs.as_slice();
+        if options.record.is_some() && !are_quotable(sources, made, &mut self.errors) {
             return false;
         }
         let recording = &mut self.recording;
+        recording.add_programs(sources, made);
         if !log_in_all(
             machine,
             programs,

@@ -2,7 +2,7 @@
 
 /// The program.
 pub const PROGRAM: &str =
-    "Assembles programs in a subset of MACRO-10 and runs them on a DECsystem-10 (KA10), a job each.";
+    "Assembles programs in MACRO-10 and runs them on a DECsystem-10 (KA10), a job each.";
 
 /// How the program is called.
 pub const PROGRAM_END: &str = "As in:  ten examples/counter.mac\n\

@@ -1,0 +1,124 @@
+//! Sources in MACRO-10, which the assembler of the subset refuses.
+ghost use Rattle.std.specs.Prelude.{IfOk};
+ghost use Rattle.source_check.specs.Same.{ComesTo};
+ghost use Rattle.program_files.specs.Reads.{HasWritten, HandsOver};
+
+use crate::tellers::is_told_by_subset;
+use crate::told::told_text;
+use macro_assembly::assemble;
+use macro_output::{Written, source_of};
+use macro_state::Assembly;
+use macro_symbols::DefinitionKind;
+use macro_values::word_of;
+use source_labels::{
+    Assembled, Fault, NamedNumber, Program, Source, faults_of, faults_text, places_in,
+};
+use std::alloc::{AllocError, Global};
+
+/// What is told where the words of a source are not those that are read back.
+const NOT_READ_BACK: &str =
+    "a fault of this program: what it wrote does not assemble to the words of the source";
+
+/// The names of a source that stand for numbers: those that are assigned, and labels between PHASE and DEPHASE, whose words
+/// stand elsewhere.
+fn numbers_of(state: &Assembly) -> Result<Vec<NamedNumber>, AllocError> {
+    let mut numbers = Vec::new(state.alloc);
+    for at in 0..state.symbols.len() {
+        let Some((name, definition)) = state.symbols.at(at) else {
+            break;
+        };
+        if definition.kind != DefinitionKind::Assigned && !definition.phased {
+            continue;
+        }
+        let Some(number) = definition.value else {
+            continue;
+        };
+        if let Some(value) = word_of(number) {
+            numbers.push(NamedNumber { name, value })?;
+        }
+    }
+    Ok(numbers)
+}
+
+/// The program of an assembly without faults, for which this source was written.
+fn program_of<'a>(
+    file: &'a str,
+    state: &Assembly,
+    written: Written,
+) -> Result<Program<'a>, AllocError>
+    requires { ComesTo written.text.items written.image }
+    ensures { IfOk result HasWritten }
+{
+    let typed = Vec::from_slice(state.alloc, state.typed.as_slice())?;
+    let numbers = numbers_of(state)?;
+    let Written { text, image } = written;
+    let mut places = places_in(state.alloc, text.as_slice(), &image)?;
+    places.numbers = numbers;
+    Ok(Program {
+        file,
+        image,
+        places,
+        written: Some(text),
+        typed,
+    })
+}
+
+/// What is wrong with a source that both assemblers refuse, the subset's with this fault first. The lines of PRINTX stand
+/// before it.
+fn refusal_text(
+    state: &Assembly,
+    source: &Source<'_>,
+    first: Fault,
+    most: usize,
+) -> Result<Vec<u8>, AllocError> {
+    let alloc = state.alloc;
+    let mut report = Vec::from_slice(alloc, state.typed.as_slice())?;
+    let faults = faults_of(alloc, source.text.as_slice(), first)?;
+    let faults = faults.as_slice();
+    let text = if is_told_by_subset(state, source.text.as_slice(), faults)? {
+        faults_text(alloc, source, faults, most)?
+    } else {
+        told_text(state, source, most)?
+    };
+    report.extend_from_slice(text.as_str().as_bytes())?;
+    Ok(report)
+}
+
+/// What comes of a source by its assembly.
+fn answer_of<'a>(
+    state: &Assembly,
+    source: &Source<'a>,
+    first: Fault,
+    most: usize,
+) -> Result<Assembled<'a>, AllocError>
+    ensures { HandsOver result }
+{
+    if !state.faults.is_empty() {
+        return Ok(Assembled::Refused(refusal_text(state, source, first, most)?));
+    }
+    let Some(written) = source_of(state)? else {
+        let file = source.file;
+        let text = format!(in state.alloc; "{file}: {NOT_READ_BACK}\n")?;
+        return Ok(Assembled::Refused(text.into_bytes()));
+    };
+    Ok(Assembled::Program(program_of(source.file, state, written)?))
+}
+
+/// Lets an assembly go.
+fn let_go(_state: Assembly) {}
+
+/// What comes of a source that the assembler of the subset refuses with this fault: a program that stands for the source of
+/// the subset that is written for it, or what is wrong with it.
+pub fn assemble_macro<'a>(
+    alloc: Global,
+    source: &Source<'a>,
+    first: Fault,
+    most: usize,
+) -> Result<Assembled<'a>, AllocError>
+    ensures { HandsOver result }
+{
+    let state = assemble(alloc, source.text.as_slice())?;
+    let answer = answer_of(&state, source, first, most);
+    let_go(state);
+    answer
+}

@@ -1,0 +1,187 @@
+//! What MACRO-10 tells of a source, in the form in which the faults of the subset are told.
+
+use macro_faults::{Fault as MacroFault, Told, push_told};
+use macro_names::{Name, text_of};
+use macro_state::Assembly;
+use script_io::Parts;
+use shown_bytes::push_shown;
+use source_labels::{
+    ErrorPlace, Source, advice_on_label, advice_on_word, are_near, push_error, push_more,
+};
+use std::alloc::{AllocError, Global};
+use std::str;
+
+const DECIMAL: &str = "write ^D before a number in decimal, as in ^D19, or a point behind it";
+
+/// Whether a fault stands behind another.
+fn is_behind(told: &Told, other: &Told) -> bool {
+    let (place, before) = (told.place, other.place);
+    place.line > before.line || place.line == before.line && place.column > before.column
+}
+
+/// The faults by their places.
+fn by_place(alloc: Global, faults: &[Told]) -> Result<Vec<Told>, AllocError> {
+    let mut sorted: Vec<Told> = Vec::new(alloc);
+    for told in faults {
+        let position = sorted
+            .as_slice()
+            .iter()
+            .position(|other| is_behind(other, told))
+            .unwrap_or(sorted.len());
+        sorted.insert(position.min(sorted.len()), *told)?;
+    }
+    Ok(sorted)
+}
+
+/// The words of a line that `macro` writes on a fault: what stands behind its third blank.
+fn words_in(line: &[u8]) -> &[u8] {
+    let mut rest = line;
+    for _ in 0..3 {
+        match rest.iter().position(|c| *c == b' ') {
+            Some(blank) => rest = rest.get(blank.saturating_add(1)..).unwrap_or(&[]),
+            None => return rest,
+        }
+    }
+    rest
+}
+
+/// The letter that MACRO-10 has for a fault, or nothing where it has none.
+fn mark_of(alloc: Global, fault: MacroFault) -> Result<String, AllocError> {
+    let mut mark = String::new(alloc);
+    let letter = fault.letter();
+    if letter != b'-' {
+        mark.push(char::from(letter))?;
+    }
+    Ok(mark)
+}
+
+/// The symbol of a source that may have been meant by a name.
+fn near_symbol(state: &Assembly, name: Name) -> Option<Name> {
+    let wanted = text_of(name);
+    for at in 0..state.symbols.len() {
+        let Some((symbol, _)) = state.symbols.at(at) else {
+            break;
+        };
+        let symbol = Name::of_sixbit(symbol);
+        if are_near(text_of(symbol).as_slice(), wanted.as_slice()) {
+            return Some(symbol);
+        }
+    }
+    None
+}
+
+/// Advice on a name that stands for nothing, or is no operation, if there is any.
+fn advice_on_name(state: &Assembly, name: Name) -> Result<Option<String>, AllocError> {
+    let alloc = state.alloc;
+    if let Some(symbol) = near_symbol(state, name) {
+        let characters = text_of(symbol);
+        let text = str::from_utf8(characters.as_slice()).unwrap_or("another name");
+        return Ok(Some(format!(in alloc; "did you mean {text}?")?));
+    }
+    advice_on_word(alloc, text_of(name).as_slice())
+}
+
+/// The line where the outermost literal begins that is not closed before a line of a source, if there is one.
+fn open_literal(source: &[u8], before: usize) -> Option<usize> {
+    let (mut line, mut depth, mut first) = (1usize, 0usize, 0usize);
+    let mut in_comment = false;
+    for byte in source {
+        if line >= before {
+            break;
+        }
+        match *byte {
+            b'\n' => {
+                line = line.saturating_add(1);
+                in_comment = false;
+            }
+            _ if in_comment => {}
+            b';' => in_comment = true,
+            b'[' => {
+                first = if depth == 0 { line } else { first };
+                depth = depth.saturating_add(1);
+            }
+            b']' => depth = depth.saturating_sub(1),
+            _ => {}
+        }
+    }
+    if depth > 0 { Some(first) } else { None }
+}
+
+/// Advice on what stands in a literal that should have ended before this line, if it should.
+fn advice_on_literal(
+    alloc: Global,
+    source: &[u8],
+    before: usize,
+) -> Result<Option<String>, AllocError> {
+    match open_literal(source, before) {
+        Some(first) => Ok(Some(format!(in alloc;
+            "the literal that begins in line {first} has no \"]\""
+        )?)),
+        None => Ok(None),
+    }
+}
+
+/// Advice on a fault, if there is any.
+fn advice_on(state: &Assembly, source: &[u8], told: &Told) -> Result<Option<String>, AllocError> {
+    let (alloc, line) = (state.alloc, told.place.line as usize);
+    let is_in_source = told.place.texts == 0;
+    match told.fault {
+        MacroFault::NotDefined(name) => advice_on_name(state, name),
+        MacroFault::Refused(name) | MacroFault::Segments(name) => {
+            advice_on_word(alloc, text_of(name).as_slice())
+        }
+        MacroFault::Digit(_) => Ok(Some(String::from_str(alloc, DECIMAL)?)),
+        MacroFault::Duplicate(_) if is_in_source => advice_on_label(alloc, source, line),
+        MacroFault::NotInLiteral(_) if is_in_source => advice_on_literal(alloc, source, line),
+        MacroFault::NoEnd => advice_on_literal(alloc, source, usize::MAX),
+        _ => Ok(None),
+    }
+}
+
+/// Adds the lines on a fault: that of `push_error`, with the letter of MACRO-10; the macros, conditions and rounds around it,
+/// the innermost first, a line each; and advice, if there is any.
+fn push_fault(
+    text: &mut String,
+    state: &Assembly,
+    source: &Source<'_>,
+    told: &Told,
+) -> Result<(), AllocError> {
+    let alloc = state.alloc;
+    let mut written = Vec::new(alloc);
+    push_told(&mut written, told, state.stream.around())?;
+    let mut lines = Parts::of(written.as_slice(), b'\n');
+    let mut reason = String::new(alloc);
+    push_shown(&mut reason, words_in(lines.next().unwrap_or(&[])))?;
+    let place = ErrorPlace {
+        line: told.place.line as usize,
+        column: told.place.column as usize,
+    };
+    let mark = mark_of(alloc, told.fault)?;
+    push_error(text, source, place, reason.as_str(), mark.as_str())?;
+    for _ in 0..written.len() {
+        let Some(line) = lines.next() else {
+            break;
+        };
+        if !line.is_empty() {
+            text.push_str("   ")?;
+            push_shown(text, line)?;
+            text.push('\n')?;
+        }
+    }
+    match advice_on(state, source.text.as_slice(), told)? {
+        Some(advice) => write!(text, "    {}\n", advice.as_str()),
+        None => Ok(()),
+    }
+}
+
+/// What is wrong with a source by its assembly, in whole lines by their places: `most` of the faults, and how many more there
+/// are.
+pub fn told_text(state: &Assembly, source: &Source<'_>, most: usize) -> Result<String, AllocError> {
+    let mut report = String::new(state.alloc);
+    let faults = by_place(state.alloc, state.faults.as_slice())?;
+    for told in faults.as_slice().iter().take(most) {
+        push_fault(&mut report, state, source, told)?;
+    }
+    push_more(&mut report, source.file, faults.len(), most, "")?;
+    Ok(report)
+}
