@@ -3,7 +3,7 @@ ghost use Rattle.std.specs.Prelude.{◌≡◌, ◌≤◌, ◌++◌, [], drop, le
 ghost use Rattle.command_line.specs.Keeping.{IsEndOf};
 
 use memchr::{memchr, memrchr};
-use program_shell::without_return;
+use script_io::without_return;
 use std::alloc::{AllocError, Global};
 use std::marker::Model;
 

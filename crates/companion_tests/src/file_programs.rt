@@ -1,4 +1,4 @@
-//! A core image and a source with the same words, and what is refused.
+//! A core image and a source with the same words, a source in MACRO-10, and what is refused.
 
 use image_files::{Packing, packing_named};
 use program_files::read_program;
@@ -50,4 +50,41 @@ fn another_packing_is_refused(rt: HostRuntime) {
     let told =
         b"one.sav: word 1: a bit is set that this packing leaves 0\n    it can be read by --from core\n";
     assert!(rt; text.as_slice() == told.as_slice());
+}
+
+/// A source in MACRO-10, with a name for a number.
+const OTHER: &[u8] = b"A=5\n MOVEI 1,A\nB: JRST B\n END\n";
+
+/// The source of the subset that stands for it.
+const WRITTEN: &[u8] = b" 201040,,000005\nB: 254000,,000141\n END 140\n";
+
+#[test]
+fn a_source_in_macro_10_has_another_in_its_place(rt: HostRuntime) {
+    let text = Vec::from_slice(rt.alloc(), OTHER).expect(&rt, "memory");
+    let source = Source {
+        file: "other.mac",
+        text,
+    };
+    let from = Packing::CoreDump;
+    let Ok(Assembled::Program(program)) = read_program(rt.alloc(), &source, from, MOST_REPORTED)
+    else {
+        assert!(rt; false);
+        return;
+    };
+    assert!(rt; program.source_for(OTHER) == WRITTEN);
+    let [(_, first), (address, second)] = program.image.words.as_slice() else {
+        assert!(rt; false);
+        return;
+    };
+    assert!(rt; first.number() == 0o201040_000005 && second.number() == 0o254000_000141);
+    let [label] = program.places.labels.as_slice() else {
+        assert!(rt; false);
+        return;
+    };
+    let [named] = program.places.numbers.as_slice() else {
+        assert!(rt; false);
+        return;
+    };
+    assert!(rt; label.place.number() == *address && label.name == 0o42 << 30);
+    assert!(rt; named.value.number() == 5 && named.name == 0o41 << 30);
 }

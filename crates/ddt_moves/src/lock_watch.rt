@@ -1,6 +1,6 @@
 //! A watch for calls on a lock, for grants, and for breakpoints that count.
 
-ghost use Rattle.std.specs.Prelude.{true};
+ghost use Rattle.std.specs.Prelude.{◌≡◌, true};
 
 use crate::run_stops::Cause;
 use crate::stop_lists::StopList;
@@ -163,6 +163,9 @@ impl<'a> LockWatch<'a> {
 
 impl Watch for LockWatch<'_> {
     ghost looks = { λ watch. true };
+
+    // What it makes of a round is only tested.
+    ghost Asks = { λ old new s ran ends. ends ≡ ends };
 
     fn looks_at_rounds(&self) -> bool {
         true

@@ -12,8 +12,8 @@ mod serving;
 use arguments::read_arguments;
 use image_service::Ending;
 use program_shell::{
-    DONE, FAILED, FailureLines, REFUSED, arguments_of, refuse_arguments, report_failure, report_to,
-    unread_arguments,
+    DONE, FAILED, FailureLines, REFUSED, arguments_or_status, refuse_arguments, report_failure,
+    report_to,
 };
 use reasons::reason_of;
 use script_io::{ByteOut, HostOut};
@@ -46,12 +46,9 @@ fn status_of<E: ByteOut>(alloc: Global, ended: Result<Ending, Stop>, errors: &mu
 fn main(rt: HostRuntime) -> ExitCode {
     let alloc = rt.alloc();
     let mut errors = HostOut::new(rt.stderr());
-    let arguments = match arguments_of(&rt) {
+    let arguments = match arguments_or_status(&rt, FAILURE_LINES.memory, &mut errors) {
         Ok(arguments) => arguments,
-        Err(error) => {
-            let status = unread_arguments(error.kind(), FAILURE_LINES.memory, &mut errors);
-            return ExitCode::from(status);
-        }
+        Err(status) => return ExitCode::from(status),
     };
     let status = match read_arguments(alloc, arguments.as_slice()) {
         Ok(options) => status_of(alloc, carry_out(&rt, &options), &mut errors),

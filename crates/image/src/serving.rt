@@ -9,7 +9,7 @@ use script_io::{ByteIn, ByteOut, HostIn, HostOut, ServeFailure, write_all};
 use std::alloc::{AllocError, Global};
 use std::{fs, io};
 
-/// Why the program ends before a command is carried out.
+/// Why a command is not carried out, or what came of it not written.
 #[derive(Drop)]
 pub enum Stop {
     /// The input, the output or memory failed.

@@ -88,7 +88,7 @@ pub record Block : Type 0 where
   pub address : ℕ
   pub words : List ℕ
 
--- a word before blocks: it begins the first one where it stands right before it and there is room
+-- a word before blocks: where it stands right before the first one, and that has room, it begins that block; else it is one itself
 abbrev pub block_before : ℕ × ℕ → List Block → List Block
 block_before x [] = record { address = x.0; words = x.1 ∷ [] } ∷ []
 block_before x (b ∷ bs) =

@@ -6,7 +6,8 @@ use Rattle.image_files.specs.declared.packings.PackErrorKind.TheVariants.{ExtraB
 use Rattle.image_files.specs.declared.word_forms.WordForm.{WordForm}
 use Rattle.image_files.specs.declared.word_forms.WordForm.TheVariants.{CoreDump, AnsiAscii, Simh, Octal}
 use Rattle.image_files.specs.Packings.{Words, core_bytes, core_words, five_bytes, ascii_bytes, ascii_words, ascii_value, are_characters}
-use Rattle.image_files.specs.Packings.{simh_bytes, simh_words, simh_value, is_simh, octal_bytes, octal_words, are_marks, are_octal_digits, half_value}
+use Rattle.image_files.specs.Packings.{simh_bytes, simh_words, simh_value, is_simh, octal_bytes, octal_words}
+use Rattle.image_files.specs.Packings.{are_marks, are_octal_digits, half_value}
 
 abbrev pub size_in : WordForm → ℕ
 size_in CoreDump = 5

@@ -1,6 +1,7 @@
 //! The packings in which each word has bytes of its own.
 ghost use Rattle.std.specs.Prelude.{◌≡◌, ◌≤◌, ◌<◌, ◌++◌, length, OnOk};
-ghost use Rattle.image_files.specs.Packings.{core_bytes, ascii_bytes, simh_bytes, five_bytes, ascii_value, are_characters, simh_value, is_simh};
+ghost use Rattle.image_files.specs.Packings.{core_bytes, ascii_bytes, simh_bytes, five_bytes, ascii_value};
+ghost use Rattle.image_files.specs.Packings.{are_characters, simh_value, is_simh};
 ghost use Rattle.image_files.specs.WordForms.{bytes_in, fault_in, size_in, word_in};
 ghost use Rattle.image_files.specs.declared.word_forms.WordForm.TheVariants as forms;
 

@@ -9,5 +9,5 @@ mod ways;
 
 pub use causes::{Cause, cause_of};
 pub use meetings::{Present, Rule};
-pub use reasons::{Met, Reason, reason_of};
+pub use reasons::{Met, Reason, count_of, reason_of};
 pub use ways::{first_unfit, way_of};

@@ -82,7 +82,7 @@ impl Reason {
 }
 
 /// How many requests a job has.
-fn count_of(requests: &[Request], job: u8) -> usize
+pub fn count_of(requests: &[Request], job: u8) -> usize
     ensures { result ≡ length (requests_of requests.now job) }
 {
     let mut count = 0;

@@ -34,7 +34,7 @@ pub enum Row<'a> {
     ReleaseGrants(u8, &'a [(u8, u32)]),
     /// The requests by which a job waits are taken out.
     Withdraws(u8),
-    /// The requests by which the jobs of a set wait are taken out: job `j` where bit 2^j is set.
+    /// The requests by which the jobs of a set wait are taken out: job j where the bit of value 2^j is set.
     WithdrawsAll(u64),
     /// A job is notified of its pending grant.
     Tells(u8),

@@ -3,19 +3,16 @@
 #![tactic(auto)]
 
 use lockcheck_program::{FAILURE_LINES, Progress, program};
-use program_shell::{arguments_of, unread_arguments};
+use program_shell::arguments_or_status;
 use script_io::{HostIn, HostOut};
 use std::io::IsTerminal;
 use std::process::ExitCode;
 
 fn main(rt: HostRuntime) -> ExitCode {
     let mut errors = HostOut::new(rt.stderr());
-    let arguments = match arguments_of(&rt) {
+    let arguments = match arguments_or_status(&rt, FAILURE_LINES.memory, &mut errors) {
         Ok(arguments) => arguments,
-        Err(error) => {
-            let status = unread_arguments(error.kind(), FAILURE_LINES.memory, &mut errors);
-            return ExitCode::from(status);
-        }
+        Err(status) => return ExitCode::from(status),
     };
     let mut reader = HostIn::new(rt.stdin());
     let mut writer = HostOut::new(rt.stdout());

@@ -2,37 +2,15 @@
 ghost use Rattle.std.specs.Prelude.{◌≡◌, false, is_some, IfErr, IfOk};
 ghost use Rattle.lockcheck_program.specs.Runs.{IsScript, IsUnread};
 
-use crate::refusals::{report_length, report_memory};
-use program_shell::{FAILED, Failure, file_error_text, read_whole, report_to};
+use crate::refusals::report_length;
+use crate::serving::FAILURE_LINES;
+use program_shell::{read_file, read_whole, report_failure};
 use script_io::{ByteIn, ByteOut};
 use std::alloc::Global;
-use std::fs;
 use std::rt::Files;
 
 /// A script of so many bytes is refused as one with too many lines.
 const MOST_BYTES: usize = 1 << 28;
-
-/// The bytes of the script's file; or, where it cannot be read, the exit status for that, which is reported.
-fn read_file<F: Files + AllocGlobal, E: ByteOut>(
-    rt: &F,
-    file: &str,
-    errors: &mut E,
-) -> Result<Vec<u8>, u8>
-    requires { E.has_failed errors.old ≡ false }
-    ensures sound { IfOk result (λ _. E.has_failed errors.new ≡ false) }
-    ensures quiet { IfOk result (λ _. E.written errors.new ≡ E.written errors.old) }
-    ensures unread { IfErr result (λ status. IsUnread (E.written errors.old) (E.written errors.new) (E.has_failed errors.new) status) }
-{
-    let alloc = rt.alloc();
-    let error = match fs::read(rt, file) {
-        Ok(script) => return Ok(script),
-        Err(error) => error,
-    };
-    match file_error_text(alloc, "lockcheck: ", file, error) {
-        Ok(text) => Err(report_to(errors, text.as_str().as_bytes(), FAILED)),
-        Err(_) => Err(report_memory(errors)),
-    }
-}
 
 /// The bytes of the reader; or, where it fails or has too many, the exit status for that, which is reported.
 fn read_input<R: ByteIn, E: ByteOut>(
@@ -55,8 +33,7 @@ fn read_input<R: ByteIn, E: ByteOut>(
                 Err(report_length(errors))
             }
         }
-        Err(Failure::Memory) => Err(report_memory(errors)),
-        Err(_) => Err(report_to(errors, b"lockcheck: read\n", FAILED)),
+        Err(failure) => Err(report_failure(errors, &FAILURE_LINES, failure)),
     }
 }
 
@@ -76,7 +53,7 @@ pub fn read_script<F: Files + AllocGlobal, R: ByteIn, E: ByteOut>(
     ensures unread { IfErr result (λ status. IsUnread (E.written errors.old) (E.written errors.new) (E.has_failed errors.new) status) }
 {
     match file {
-        Some(file) => read_file(rt, file.as_str(), errors),
+        Some(file) => read_file(rt, "lockcheck: ", file.as_str(), &FAILURE_LINES, errors),
         None => read_input(rt.alloc(), reader, errors),
     }
 }

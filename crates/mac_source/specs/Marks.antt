@@ -3,7 +3,7 @@ use Rattle.std.specs.Prelude.{ℕ, Bool, false, ◌&&◌, List, slice_get, unwra
 use Rattle.word36.specs.declared.image.Image.{Image}
 use Rattle.mac_asm.specs.Assembly.{Assembled}
 
--- whether a address has a label; none is behind the list
+-- whether an address has a label; behind the list none has
 abbrev pub marked_by : List Bool → ℕ → Bool
 marked_by marks address = unwrap_or (slice_get marks address) false
 

@@ -2,7 +2,8 @@
 ghost use Rattle.std.specs.Prelude.{◌≡◌, ◌<◌, ◌≤◌, ◌^◌, ◌+◌, ◌∷◌, ◌==◌, ◌&&◌, IfOk, OnOk, length, not, reverse};
 ghost use Rattle.image_files.specs.Images.{Rises};
 ghost use Rattle.mac_source.specs.Pieces.{IsPlaced, alone, count, ends_text, first, is_next};
-ghost use Rattle.mac_source.specs.Pieces.{address_of, is_zeros, joins_text, joins_zeros, pieces_of, rest_before, text_of, with_word, zeros_at};
+ghost use Rattle.mac_source.specs.Pieces.{address_of, is_zeros, joins_text, joins_zeros, pieces_of, rest_before};
+ghost use Rattle.mac_source.specs.Pieces.{text_of, with_word, zeros_at};
 ghost use Rattle.mac_source.specs.Marks.{marked_by};
 
 use crate::characters::{Characters, characters_in, is_end, is_full, is_text_alone, packed};

@@ -56,7 +56,7 @@ LOOP: INCHWL 1
  END LOOP
 ";
 
-/// Asks for the lock X, works until an interrupt tells of the grant, and gives it up.
+/// Asks for the lock X, works until an interrupt notifies it of the grant, and gives it up.
 pub const WORKER: &str = "\
 BEGIN: MOVEI 1,VEC
  PIINI. 1,

@@ -143,7 +143,7 @@ fn extend(text: &mut ArrayVec<Char7, TAKEN_ROOM>, more: &[Char7])
     let _ = text.try_extend_from_slice(more);
 }
 
-/// Takes characters by a Take event, again until it takes fewer than it can.
+/// Makes a Take event happen, again until it takes fewer characters than it can, and adds what it takes.
 fn take_characters<L: LockTable, C: CoreStore>(
     machine: &mut System<L, C>,
     event: &Event<'_>,
@@ -170,7 +170,7 @@ fn take_characters<L: LockTable, C: CoreStore>(
     None
 }
 
-/// Takes all output of a line by a Take event, and adds it.
+/// Takes all output of a line, by a Take event that happens as often as is needed, and adds it.
 pub fn take_text<L: LockTable, C: CoreStore>(
     machine: &mut System<L, C>,
     event: &Event<'_>,

@@ -6,6 +6,7 @@ mod answers;
 mod arguments;
 mod command;
 mod failure;
+mod inputs;
 mod line_reader;
 mod pending_text;
 mod refusal;
@@ -17,11 +18,13 @@ pub use answers::Answers;
 pub use arguments::{MachineSize, arguments_of, files_in, matches_of, number_of, size_in};
 pub use command::{VERSION, make_command, make_flag, make_option, make_top, with_files};
 pub use failure::{Failure, FailureLines};
+pub use inputs::{read_file, read_input};
 pub use line_reader::{LineReader, NextLine};
 pub use pending_text::PendingText;
 pub use refusal::{Refusal, RefusalText, Wrong, refusal_of, refusal_text, refused, usage_text};
 pub use reports::{
-    file_error_text, refuse_arguments, report_failure, report_to, unread_arguments, write_output,
+    arguments_or_status, file_error_text, refuse_arguments, report_failure, report_to,
+    unread_arguments, write_output,
 };
 pub use statuses::{DONE, FAILED, REFUSED, USAGE};
-pub use whole_input::{read_whole, without_return};
+pub use whole_input::read_whole;

@@ -1,13 +1,15 @@
 //! What a program reports to a person as it ends.
-ghost use Rattle.std.specs.Prelude.{◌≡◌, ◌≢◌, false};
-ghost use Rattle.program_shell.specs.Reports.{Hands, WritesOnlyWhenDone};
+ghost use Rattle.std.specs.Prelude.{◌≡◌, ◌≢◌, false, IfErr, IfOk};
+ghost use Rattle.program_shell.specs.Reports.{AreUnread, Hands, IsReported, WritesOnlyWhenDone};
 
+use crate::arguments::arguments_of;
 use crate::failure::{Failure, FailureLines};
 use crate::refusal::{Refusal, refusal_text};
 use crate::statuses::{DONE, FAILED, USAGE};
 use script_io::{ByteOut, write_all};
 use shown_bytes::shown_text;
 use std::alloc::{AllocError, Global};
+use std::env::Env;
 use std::io::{self, ErrorKind};
 
 /// Writes a text to standard error, and gives the exit status. A failure of `errors` changes nothing.
@@ -23,7 +25,8 @@ pub fn report_to<E: ByteOut>(errors: &mut E, text: &[u8], status: u8) -> u8
 /// Writes the line on a failure to standard error, and gives `FAILED`.
 pub fn report_failure<E: ByteOut>(errors: &mut E, lines: &FailureLines, failure: Failure) -> u8
     requires { E.has_failed errors.old ≡ false }
-    ensures { result ≡ FAILED }
+    ensures status { result ≡ FAILED }
+    ensures told { IsReported (E.written errors.old) (E.written errors.new) (E.has_failed errors.new) result }
 {
     report_to(errors, lines.of(failure), FAILED)
 }
@@ -92,5 +95,24 @@ pub fn unread_arguments<E: ByteOut>(kind: ErrorKind, memory_line: &[u8], errors:
         report_to(errors, text, USAGE)
     } else {
         report_to(errors, memory_line, FAILED)
+    }
+}
+
+/// The arguments of the process, as `arguments_of` gives them; or, where they cannot be read, the exit status for that,
+/// which is reported as `unread_arguments` reports it.
+pub fn arguments_or_status<H: Env + AllocGlobal, E: ByteOut>(
+    rt: &H,
+    memory_line: &[u8],
+    errors: &mut E,
+) -> Result<Vec<String>, u8>
+    requires { E.has_failed errors.old ≡ false }
+    ensures sound { IfOk result (λ _. E.has_failed errors.new ≡ false) }
+    ensures quiet { IfOk result (λ _. E.written errors.new ≡ E.written errors.old) }
+    ensures unread { IfErr result (λ status. AreUnread memory_line.now
+        (E.written errors.old) (E.written errors.new) (E.has_failed errors.new) status) }
+{
+    match arguments_of(rt) {
+        Ok(arguments) => Ok(arguments),
+        Err(error) => Err(unread_arguments(error.kind(), memory_line, errors)),
     }
 }

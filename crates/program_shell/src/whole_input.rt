@@ -28,11 +28,3 @@ pub fn read_whole<R: ByteIn>(alloc: Global, reader: &mut R, most: usize) -> Resu
     }
     Ok(bytes)
 }
-
-/// A line without the CR at its end.
-pub fn without_return(line: &[u8]) -> &[u8] {
-    match line {
-        [front @ .., b'\r'] => front,
-        _ => line,
-    }
-}

@@ -70,7 +70,7 @@ pub fn read_half(text: &[u8]) -> Option<u32>
     }
 }
 
-/// Stores a number of 18 bits from the front of the items.
+/// Takes a number of 18 bits in decimal from the front of the items.
 #[inline(always)]
 pub fn next_half(items: &mut Parts<'_>) -> Option<u32>
     ensures value { MatchOption result (front half_of items.old ≡ None) (λ n. IsFront half_of n items.old items.new) }

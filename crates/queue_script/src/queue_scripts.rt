@@ -78,7 +78,7 @@ fn refuse_unless_busy<L: LockTable>(
     Ok(())
 }
 
-/// Stores out all requests of a job, and adds the grants that this makes.
+/// Takes all requests of a job away, and adds the grants that this makes.
 #[tactic(auto, using(std::proofs::Common::append_assoc))]
 fn free<L: LockTable>(
     table: &mut L,

@@ -2,7 +2,7 @@
 ghost use Rattle.std.specs.Prelude.{◌≡◌};
 ghost use Rattle.run_record.specs.Quotes.{reason_of};
 
-use script_io::{LINE_LENGTH, Parts, is_allowed};
+use script_io::{LINE_LENGTH, Parts, is_allowed, without_return};
 use std::fmt;
 
 /// Why a line of a source cannot stand in a script.
@@ -47,14 +47,6 @@ fn reason_of(line: &[u8]) -> Option<Unquotable>
         Some(Unquotable::EndsSource)
     } else {
         None
-    }
-}
-
-/// A line without the CR at its end.
-fn without_return(line: &[u8]) -> &[u8] {
-    match line {
-        [front @ .., b'\r'] => front,
-        _ => line,
     }
 }
 

@@ -24,7 +24,7 @@ pub use host_fault::HostFault;
 pub use host_ports::{HostIn, HostOut};
 pub use hosts::{ReadOnce, StdReader, StdWriter, WriteOnce};
 pub use lent_hosts::{LentReader, LentWriter, Plan};
-pub use line_forms::{is_allowed, is_silent};
+pub use line_forms::{is_allowed, is_silent, without_return};
 pub use line_sessions::{LINE_LENGTH, LineService, LineSession};
 pub use numbers::{digit_number, number};
 pub use parts::Parts;

@@ -2,10 +2,11 @@
 ghost use Rattle.std.specs.Prelude.{◌≡◌, ◌==◌, ◌+◌, ◌-◌, ◌^◌, ◌<◌, ◌≤◌};
 ghost use Rattle.std.specs.Prelude.{◌++◌, ℕ, List, [], ◌∷◌, Some, None, false, true, All};
 ghost use Rattle.std.specs.Prelude.{IsTrue, ◌↔◌, length, take, drop, is_some, OnOk, IfOk, IfSome, MatchOption};
-ghost use Rattle.std.specs.Str.Lines.{lines, strip_carriage_return};
+ghost use Rattle.std.specs.Str.Lines.{lines};
 ghost use Rattle.script_io.specs.Lines.{is_no_newline};
 ghost use Rattle.script_io.specs.Transcripts.{Transcript, after, closed, unless_ended, unless_ended-same};
 
+use crate::line_forms::without_return;
 use crate::sessions::Session;
 use arrayvec::ArrayVec;
 use memchr::memchr;
@@ -279,14 +280,4 @@ fn find_newline(bytes: &[u8]) -> Option<usize>
         (λ i. All is_no_newline (take i bytes.now) × (bytes.now ≡ take i bytes.now ++ 10 ∷ drop (i + 1) bytes.now)) }
 {
     memchr(b'\n', bytes)
-}
-
-/// The line without the CR at its end.
-fn without_return(line: &[u8]) -> &[u8]
-    ensures { result.now ≡ strip_carriage_return line.now }
-{
-    match line {
-        [front @ .., b'\r'] => front,
-        _ => line,
-    }
 }
