@@ -119,10 +119,12 @@ def works(seconds):
             yield "tests", crate, seconds.get((crate, "tests"), 0)
 
 
-def laid_over(processors, seconds):
+def laid_over(processors, seconds, program=None):
     """Gives the minutes that the proofs take on so many processors that are there all the time, laid as `rt ci` lays
-    them: of the work whose libraries are there, that one first which has the longest chain before it."""
-    pending = list(works(seconds))
+    them: of the work whose libraries are there, that one first which has the longest chain before it. With a program,
+    those alone that its first start proves."""
+    needed = {program, *crates.below(program)} if program else {}
+    pending = [it for it in works(seconds) if not program or it[0] == "proof" and it[1] in needed]
     own = {crate: took for kind, crate, took in pending if kind == "proof"}
     ahead = {}
     for crate in sorted(own, key=lambda it: len(crates.below(it)), reverse=True):
@@ -158,6 +160,8 @@ def write():
     lines += ["", f"The longest chain of proofs takes {chain:.1f} minutes: {', '.join(f'`{it}`' for it in names)}."]
     two, four = laid_over(2, known.seconds), laid_over(4, known.seconds)
     lines += ["", f"Laid over two processors that are there all the time, the proofs that have minutes below take {two:.0f} minutes; over four, {four:.0f}."]
+    one, two, four = (laid_over(it, known.seconds, "lockmon") for it in (1, 2, 4))
+    lines += ["", f"Those that the first start of `lockmon` makes take {one:.0f} minutes of a processor; laid over two, {two:.0f}; over four, {four:.0f}."]
     lines += ["", "| Crate | Proof | Tests | Builds | Functions | Code | Definitions | Proofs |", "|---|" + 7 * "---|"]
     page = crates.text_of(PAGE)
     before, _, rest = page.partition(MARKS[0])

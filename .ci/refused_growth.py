@@ -1,9 +1,10 @@
 #!/usr/bin/env python3
 """Runs programs in which one growth of memory is refused, the first, the second and so on until a run meets none. Such
-a run ends with status 3, `NAME: memory` on standard error and a beginning of its output; or with the status and all of
-the output that it has where nothing is refused. (Of wrong arguments a suggestion is left out where there is no memory
-for it.) The programs are those that `rt ci` built, or where there are words NAME=PATH these alone. `rt try
---fail-alloc` builds the program anew for each number, so a library that is loaded before the program counts here."""
+a run ends with status 3, a beginning of its output and of what it reports, and behind that a line that says so (`NAME:
+memory`; `ten` says it in words); or with the status and all of the output that it has where nothing is refused. (Of
+wrong arguments a suggestion is left out where there is no memory for it.) The programs are those that `rt ci` built, or
+where there are words NAME=PATH these alone. `rt try --fail-alloc` builds the program anew for each number, so a library
+that is loaded before the program counts here."""
 
 import os
 import shutil
@@ -72,6 +73,11 @@ class Case:
     def __str__(self):
         return " ".join([self.program, *self.words])
 
+    def told(self):
+        """Gives what may be written to standard error where memory was refused."""
+        lines = ["there is no memory", f"{self.words[-1]}: out of memory"] if self.program == "ten" else ["memory"]
+        return [f"{self.program}: {it}\n".encode() for it in lines]
+
 
 def full_queue():
     """Gives a script that enters as many requests as there can be and one more, gives one up, and enters another."""
@@ -96,6 +102,10 @@ def cases():
     yield Case("macro", ["--list", "/dev/null", "--cross", "/dev/null"], squares)
     yield Case("macro", ["--list", "/dev/null"], b" MOVEI 1,NOWHR\n END\n", 1)
     yield Case("macro", ["fly", "away"], b"", 2)
+    yield Case("ten", [str(TOP / "examples" / "squares.mac")], b"")
+    yield Case("ten", [str(TOP / "examples" / "doubled.mac")], b"", 1)
+    circle = (TOP / "examples" / "two_in_a_circle.run").read_bytes()
+    yield Case("lockview", ["--explain", "--run"], circle)
 
 
 class Runner:
@@ -116,7 +126,8 @@ class Runner:
         ran = self.run({"LD_PRELOAD": f"{self.folder}/refuse.so", "REFUSE": str(number), "REFUSED": str(mark)})
         is_refused = mark.exists()
         mark.unlink(missing_ok=True)
-        is_memory = ran.returncode == REFUSED and ran.stderr == f"{self.case.program}: memory\n".encode()
+        begun = [ran.stderr.removesuffix(it) for it in self.case.told() if ran.stderr.endswith(it)]
+        is_memory = ran.returncode == REFUSED and any(map(self.whole.stderr.startswith, begun))
         is_whole = ran.returncode == self.whole.returncode and ran.stdout == self.whole.stdout
         if is_whole or is_refused and is_memory and self.whole.stdout.startswith(ran.stdout):
             return is_refused, None
