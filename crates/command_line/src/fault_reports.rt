@@ -90,8 +90,8 @@ fn source_text(alloc: Global, lines: &Lines, fault: SourceFault) -> Result<Vec<u
     Ok(text)
 }
 
-/// What is wrong with a line of a source that has a fault of this code. A name that no line of the input defines is told as one
-/// that is not defined.
+/// What is wrong with a line of a source that has a fault of this code. A name that no line of the input defines is
+/// reported as one that is not defined.
 fn source_reason(
     alloc: Global,
     lines: &Lines,

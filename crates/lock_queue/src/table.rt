@@ -66,8 +66,8 @@ pub trait LockTable: Drop {
     fn withdraw(&mut self, job: u8)
         ensures { requests self.new ≡ withdrawn (requests self.old) job };
 
-    /// Removes the requests by which some jobs wait: job `j` where bit 2^j of `jobs` is set. All are
-    /// judged by the list as it is before the first is removed.
+    /// Removes the requests by which some jobs wait: those of job `j` where the bit of weight 2^j is set in `jobs`. All
+    /// are judged by the list as it is before the first is removed.
     fn withdraw_all(&mut self, jobs: u64)
         ensures { requests self.new ≡ withdrawn_all (requests self.old) jobs };
 
