@@ -22,19 +22,19 @@ FUNCTIONS_A_MINUTE = 20
 FUNCTION = re.compile(r"^ *(?:pub |const |unsafe )*fn ", re.M)
 
 
+def listed():
+    """The lines of crates.txt, by the crate that each is of."""
+    with open(f"{TOP}/crates.txt", encoding="utf-8") as lines:
+        return {it.partition(":")[0]: it for it in lines if re.match("[a-z]", it)}
+
+
 def crates_below(crate):
     """The crates that a crate stands on, each with the crates that it names, the lowest first; the crate itself is the last."""
-    named = {}
-    with open(f"{TOP}/crates.txt", encoding="utf-8") as lines:
-        for line in lines:
-            if re.match("[a-z]", line):
-                name, _, uses = line.partition(":")
-                named[name.strip()] = uses.split()
-    found = {}
+    lines, found = listed(), {}
 
     def visit(name):
-        if name in named and name not in found:
-            uses = [it for it in named[name] if it in named]
+        if name not in found:
+            uses = [it for it in lines[name].partition(":")[2].split() if it in lines]
             for it in uses:
                 visit(it)
             found[name] = uses
@@ -98,6 +98,8 @@ class Build:
                     self.behind[it] = max(self.behind[it], self.functions[it] + self.behind[name])
         self.waiting = [it for it in self.left if it != crate]
         self.idle = [f"{folder}/{it}" for it in range(min(workers(), len(self.waiting)))]
+        for worker in self.idle:
+            make_worker(worker, self.uses)
         self.running, self.shown = {}, 0
 
     def say(self, text):
@@ -124,13 +126,11 @@ class Build:
 
     def begin(self, name, jobs):
         worker = self.idle.pop()
-        at = f"{worker}/crates/{name}"
         for it in [name, *self.below(name)]:
-            copy_crate(it, f"{worker}/crates/{it}")
-        for file in ("crates.txt", "HANDLES"):
-            shutil.copyfile(f"{TOP}/{file}", f"{worker}/{file}")
+            copy_library(it, worker)
         with open(f"{self.folder}/{name}.log", "w", encoding="utf-8") as log:
             words = ["rt", "lib", "--jobs", str(jobs)]
+            at = f"{worker}/crates/{name}"
             self.running[name] = worker, subprocess.Popen(words, cwd=at, stdin=subprocess.DEVNULL, stdout=log, stderr=log)
 
     def begin_ready(self):
@@ -199,13 +199,22 @@ def link_or_copy(one, other):
         shutil.copy2(one, other)
 
 
-def copy_crate(name, to):
-    """Copies a crate's files, as far as they are not there, and its library, if it is built."""
-    made = f"{TOP}/crates/{name}"
-    if not os.path.isdir(to):
-        shutil.copytree(made, to, ignore=lambda at, _: ["out"] if at == made else [])
-    if os.path.isdir(f"{made}/out/rlib") and not os.path.isdir(f"{to}/out/rlib"):
-        shutil.copytree(f"{made}/out/rlib", f"{to}/out/rlib", copy_function=link_or_copy)
+def make_worker(worker, names):
+    """Makes a folder with the sources of these crates and the lines of crates.txt on them."""
+    for name in names:
+        made = f"{TOP}/crates/{name}"
+        shutil.copytree(made, f"{worker}/crates/{name}", ignore=lambda at, _, made=made: ["out"] if at == made else [])
+    shutil.copyfile(f"{TOP}/HANDLES", f"{worker}/HANDLES")
+    lines = listed()
+    with open(f"{worker}/crates.txt", "w", encoding="utf-8") as it:
+        it.writelines(lines[name] for name in names)
+
+
+def copy_library(name, worker):
+    """Gives a worker the library of a crate, if it is built and not there."""
+    made, to = f"{TOP}/crates/{name}/out/rlib", f"{worker}/crates/{name}/out/rlib"
+    if os.path.isdir(made) and not os.path.isdir(to):
+        shutil.copytree(made, to, copy_function=link_or_copy)
 
 
 def main(program, crate, *words):
