@@ -21,7 +21,7 @@ const DATRD: u32 = 0o777_776;
 
 const DATWR: u32 = 0o777_775;
 
-/// .JBREL, which tells the highest legal address.
+/// .JBREL, which has the highest legal address.
 const JBREL: u32 = 0o44;
 
 /// The rows of `core_grows_and_shrinks`.
@@ -41,7 +41,7 @@ fn core_grows_and_shrinks(rt: HostRuntime) {
     walk(&rt, rt.alloc(), &CORE_GROWS_AND_SHRINKS);
 }
 
-/// A left half that is not 0, no address, and more blocks than are free: AC tells the free blocks, and
+/// A left half that is not 0, no address, and more blocks than are free: AC has the free blocks, and
 /// nothing else changes.
 static CORE_IS_REFUSED: [Row; 13] = [
     Does(Stores(1, JBREL as usize, &[7])),

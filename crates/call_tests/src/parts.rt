@@ -53,7 +53,7 @@ impl Machine {
         self.ask_for([0o200000_777777, 0o500000_000000 | code, 0])
     }
 
-    /// Makes such ENQ. 1 of the user codes below a number, and tells whether each is granted and adds a request to none.
+    /// Makes such ENQ. 1 of the user codes below a number. Whether each is granted, and adds one request.
     pub fn fills(&mut self, count: usize) -> bool {
         for i in 0..count {
             if self.ask_bypassing(i as u64) != (SKIPPED, 0o1_000300) || self.requests() != i + 1 {
@@ -73,8 +73,8 @@ impl Machine {
         true
     }
 
-    /// Types characters A at line 0, one by one, and tells whether job 1 is ready behind the last of so many, and
-    /// behind none before.
+    /// Types characters A at line 0, one by one. Whether job 1 is ready behind the last of so many, and behind none
+    /// before.
     pub fn is_ready_behind(&mut self, count: u32) -> bool {
         for i in 1..=count {
             self.type_in(b"A");

@@ -8,7 +8,7 @@ use crate::rows::Sight::{Requests, Word};
 use crate::rows::{Row, walk};
 
 /// Job 1 has 64 requests, which is its quota: the next ENQ. gives code 16, but behind the want of a vector,
-/// and ENQC. 1 tells of it, whatever is in AC+1.
+/// and ENQC. 1 gives the quota, whatever is in AC+1.
 static QUOTAS: [Row; 10] = [
     Fills(64),
     AsksBypassing(0o100, (NEXT, 0o20), 64),

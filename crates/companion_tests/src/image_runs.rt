@@ -108,7 +108,7 @@ fn a_fault_is_told(rt: HostRuntime) {
     assert!(rt; writer.as_slice() == b"?WORD 6 CUTSHORT\n".as_slice());
 }
 
-/// What `serve_list` tells of a file that is read as another packing than its own.
+/// What `serve_list` says of a file that is read as another packing than its own.
 #[test]
 fn the_packing_that_fits_is_told(rt: HostRuntime) {
     let octal = b"254000,,000140\n";

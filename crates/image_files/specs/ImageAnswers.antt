@@ -1,4 +1,4 @@
--- How an answer tells the words or the image that were read.
+-- What an answer says of the words or the image that were read.
 use Rattle.std.specs.Prelude.{◌≡◌, ℕ, Vec, List, Result, Ok, Err}
 use Rattle.word36.specs.declared.image.Image.{Image}
 use Rattle.image_files.specs.Loads.{loaded}
@@ -7,7 +7,7 @@ use Rattle.image_files.specs.declared.faults.ImageFault.{ImageFault}
 use Rattle.image_files.specs.declared.faults.ImageError.{ImageError}
 use Rattle.image_files.specs.declared.faults.ImageError.TheVariants as errors
 
--- the words, or the first one at fault; where there was no memory nothing is told
+-- the words, or the first one at fault; where there was no memory nothing is said
 abbrev pub ReadsWords : {A : Type 0} → Result (Vec ℕ A) ImageError → Result (List ℕ) ImageFault → Type 0
 ReadsWords (Ok words) read = read ≡ Ok words.items
 ReadsWords (Err (errors.Fault fault)) read = read ≡ Err fault

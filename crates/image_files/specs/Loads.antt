@@ -1,4 +1,4 @@
--- How an answer tells the image of a file.
+-- What an answer says of the image of a file.
 use Rattle.std.specs.Prelude.{◌≡◌, ℕ, ◌+◌, ◌<◌, ◌≤◌, ◌^◌, length, List, [], Option, Some, None, Result, Ok, Err}
 use Rattle.word36.specs.declared.image.Image.{Image}
 use Rattle.image_files.specs.declared.saves.SaveErrorKind.{SaveErrorKind}
@@ -13,7 +13,7 @@ use Rattle.image_files.specs.Saves.{Loaded, SaveFault, fault_at, ended_by}
 abbrev pub loaded : Image → Loaded
 loaded image = record { words = image.words.items; start = image.start }
 
--- the image, or the first word at fault; where there was no memory nothing is told
+-- the image, or the first word at fault; where there was no memory nothing is said
 abbrev pub Loads : Result Image SaveError → Result Loaded SaveFault → Type 0
 Loads (Ok image) read = read ≡ Ok (loaded image)
 Loads (Err (errors.Word number kind)) read = read ≡ fault_at number kind

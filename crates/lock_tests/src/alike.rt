@@ -1,4 +1,4 @@
-//! Whether two tables hold the same, and tell the same.
+//! Whether two tables hold the same, and show the same.
 
 use crate::build::key;
 use lock_queue::{LockTable, Request, Want};
@@ -60,7 +60,7 @@ fn tell_a_job_the_same<L: LockTable, M: LockTable>(a: &L, b: &M, job: u8) -> boo
     a.is_waiting(job) == b.is_waiting(job) && a.pending(job) == b.pending(job)
 }
 
-/// Whether two tables tell a job the same of the first user codes.
+/// Whether two tables show a job the same of the first user codes.
 fn have_the_same_status<L: LockTable, M: LockTable>(a: &L, b: &M, job: u8) -> bool {
     for code in 0..CODES {
         if a.status(&key(code), job) != b.status(&key(code), job) {
@@ -80,7 +80,7 @@ fn have_the_same_waits<L: LockTable, M: LockTable>(a: &L, b: &M, job: u8) -> boo
     true
 }
 
-/// Whether two tables hold the same, and tell the same of all jobs, of the first codes and of who waits
+/// Whether two tables hold the same, and show the same of all jobs, of the first codes and of who waits
 /// for whom.
 pub fn are_alike<L: LockTable, M: LockTable>(a: &L, b: &M) -> bool {
     for job in 0..=JOBS {

@@ -194,7 +194,7 @@ fn step<L: LockTable, M: LockTable>(a: &mut L, b: &mut M, numbers: &mut Numbers)
 }
 
 /// Makes 10,000 steps on both tables, which are generated from a start, and compares after each what they hold, and
-/// every so often all that they tell. The most requests that were present.
+/// every so often all that they show. The most requests that were present.
 pub fn most_present<L: LockTable, M: LockTable>(
     rt: &impl Abort,
     a: &mut L,

@@ -72,8 +72,8 @@ fn code<L: LockTable>(table: &mut L, job: u8, call: Call) -> Option<u8> {
     }
 }
 
-/// Makes so many requests of a job that has this quota, with ids from 1 on, each for a lock of its own, and tells
-/// whether all are granted.
+/// Makes so many requests of a job that has this quota, with ids from 1 on, each for a lock of its own. Whether
+/// all are granted.
 fn fills<L: LockTable>(table: &mut L, job: u8, quota: u16, count: u16) -> bool {
     for i in 1..=count {
         let ask = AsksWithin(quota, AtOnce, i, One(Bypassing(u32::from(i), 0)));
@@ -155,7 +155,7 @@ fn words<L: LockTable>(table: &L, job: u8, code: u32) -> [u64; 3] {
 }
 
 impl Row<'_> {
-    /// Does what the row does to a table, and tells whether it is answered so; whether it is seen, where
+    /// Does to a table what the row does. Whether the table answers so; whether the row sees what it looks for, where
     /// it only looks.
     pub fn holds<L: LockTable>(&self, table: &mut L) -> bool {
         match self {

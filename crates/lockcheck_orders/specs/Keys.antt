@@ -36,7 +36,7 @@ pub record IsKeyOf (lines : List Line) (s : State) (key : List ℕ) : Type 0 whe
   pub back : unpacked lines form ≡ s
   pub counted : length form.made ≡ length (jobs_of lines)
 
--- ---- the numbers tell states apart
+-- ---- different states have different numbers
 
 flag-apart : (a b : Bool) → flag a ≡ flag b → a ≡ b
 flag-apart true true h = refl

@@ -1,4 +1,4 @@
-//! The numbers by which kept states are told apart.
+//! The numbers by which kept states are distinguished.
 ghost use Rattle.std.specs.Prelude.{◌≡◌, ◌++◌, ◌∷◌, [], IfOk, OnOk};
 ghost use Rattle.std.specs.List.{flat_map};
 ghost use Rattle.lockcheck_orders.specs.Keys.{flag, numbers_of, request_numbers, want_numbers};

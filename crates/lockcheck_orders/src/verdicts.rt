@@ -164,7 +164,7 @@ fn report_on(
     })
 }
 
-/// Looks at every state that some order leads to, or gives up where there are more than `most`. The answers are told where
+/// Looks at every state that some order leads to, or gives up where there are more than `most`. It gives the answers where
 /// they are asked for. `watch` is shown how far the search is.
 pub fn look<W: Watch>(
     alloc: Global,

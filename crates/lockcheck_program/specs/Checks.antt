@@ -25,8 +25,8 @@ pub record IsFound {W : Type 0} (Looks : W → W → ℕ → ℕ → Type 0) (w 
   pub words : text ≡ looked_text (lines script) programs looked
   pub ended : status ≡ looked_status looked
 
--- an output, from o to o', was written all of a text, and the program ends with this status; or the output failed behind a
--- beginning, which standard error, from e to e', is told
+-- all of a text was written to an output, from o to o', and the program ends with this status; or the output failed behind a
+-- beginning, which was reported to standard error, from e to e'
 abbrev pub WritesText : List ℕ → ℕ → Option (List ℕ) → Option (List ℕ) → Bool → Option (List ℕ) → Option (List ℕ) → Bool → ℕ → Type 0
 WritesText text due o o' write_failed e e' errors_failed status =
     ((status ≡ due) × Appends o o' text × (write_failed ≡ false) × (e' ≡ e))
@@ -43,11 +43,11 @@ IsRefusalLine Memory text = false ≡ true
 IsRefusalLine (RefusedLine n) text = (words : List ℕ) × (text ≡ refusal_line n words)
 IsRefusalLine TooLong text = text ≡ codes "lockcheck: the script has more than " ++ decimal MOST_LINES ++ codes " lines\n"
 
--- standard error was told that there was no memory, and the program failed
+-- the program reported that there was no memory, and failed
 abbrev pub WantsMemory : Option (List ℕ) → Option (List ℕ) → Bool → ℕ → Type 0
 WantsMemory e e' errors_failed status = (status ≡ FAILED) × Hands e e' errors_failed (codes "lockcheck: memory\n")
 
--- a script was refused for this reason, which standard error was told
+-- a script was refused for this reason, which was reported
 abbrev pub IsRefused : ScriptError → Option (List ℕ) → Option (List ℕ) → Bool → ℕ → Type 0
 IsRefused reason e e' errors_failed status =
     (status ≡ REFUSED) × ((text : List ℕ) × IsRefusalLine reason text × Hands e e' errors_failed text)

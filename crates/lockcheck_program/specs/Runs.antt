@@ -12,7 +12,7 @@ abbrev pub IsScript : Bool → Option (List ℕ) → Option (List ℕ) → List 
 IsScript true i i' script = i' ≡ i
 IsScript false i i' script = Consumes i i' script × IsAtEnd i'
 
--- the script could not be read, or has too many bytes, which standard error was told
+-- the script could not be read, or has too many bytes, which was reported
 abbrev pub IsUnread : Option (List ℕ) → Option (List ℕ) → Bool → ℕ → Type 0
 IsUnread e e' errors_failed status =
     IsRefused TooLong e e' errors_failed status ⊎ ((status ≡ FAILED) × ((text : List ℕ) × Hands e e' errors_failed text))

@@ -1,4 +1,4 @@
-//! The exit statuses that tell what the search found. The others are those that every program has.
+//! The exit statuses that say what the search found. The others are those that every program has.
 
 /// Some order leads to a circle.
 pub const CIRCLE: u8 = 4;

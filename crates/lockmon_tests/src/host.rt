@@ -25,7 +25,7 @@ fn no_room(rt: HostRuntime) {
 }
 
 /// A port of the host that passes bytes by threes, is interrupted before each of them, and fails in
-/// the end where it is told so.
+/// the end where its field says so.
 #[derive(Drop)]
 struct Unsteady {
     rest: &'static [u8],
@@ -113,7 +113,7 @@ fn interrupted_writes_are_made_again(rt: HostRuntime) {
 /// Hosts that pass so many bytes at once, behind so many calls that are interrupted.
 const PLANS: [(usize, u64); 3] = [(1, 2), (3, 1), (100, 0)];
 
-/// How many calls pass so many bytes, and tell of the end or find all passed.
+/// How many calls pass so many bytes, and report the end or find all passed.
 fn calls_for(length: usize, most: usize) -> u64 {
     let most = most.max(1);
     length.div_ceil(most) as u64

@@ -1,4 +1,4 @@
--- Labels and numbers as they are written: their characters, and that a label tells its address.
+-- Labels and numbers as they are written: their characters, and that labels of two addresses differ.
 use Rattle.std.proofs.Common.{◌≡◌, ℕ, zero, suc, ◌+◌, ◌-◌, ◌*◌, ◌/◌, ◌%◌, ◌^◌, ◌<◌, ◌≤◌, List, [], ◌∷◌}
 use Rattle.std.proofs.Common.{Bool, true, false, length, length-append, take, map, refl, ap, ◌∙◌, sym, arith}
 use Rattle.std.specs.List.{list_all}
@@ -129,7 +129,7 @@ label_folded p =
 heads : (a b : ℕ) (xs ys : List ℕ) → (a ∷ xs) ≡ (b ∷ ys) → (a ≡ b) × (xs ≡ ys)
 heads a b xs ys h = (cc, cc)
 
--- a symbol tells the address
+-- labels with the same symbol have the same address
 pub label_tells : (p q : ℕ) → p < 2 ^ 18 → q < 2 ^ 18 → symbol_of (label_text p) ≡ symbol_of (label_text q) → p ≡ q
 unfolding symbol_of
 label_tells p q h k same =

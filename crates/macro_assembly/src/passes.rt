@@ -2,7 +2,7 @@
 
 use crate::dispatch::carry_out;
 use crate::steps::Work;
-use macro_faults::{Failure, Fault, Told};
+use macro_faults::{Failure, Fault, Report};
 use macro_names::{Name, NameReader, is_blank, is_digit, is_name_character};
 use macro_operations::{of_dialect, of_subset};
 use macro_state::Assembly;
@@ -32,17 +32,17 @@ fn run_passes(state: &mut Assembly, work: &mut Work) -> Result<(), AllocError> {
         return Ok(());
     }
     run_pass(state, work, 2)?;
-    tell_moved(state)
+    report_moved(state)
 }
 
-/// Tells what has another place in the second pass, where nothing else is wrong.
-fn tell_moved(state: &mut Assembly) -> Result<(), AllocError> {
+/// Reports what has another place in the second pass, where nothing else is wrong.
+fn report_moved(state: &mut Assembly) -> Result<(), AllocError> {
     if !state.faults.is_empty() {
         return Ok(());
     }
     for at in 0..state.moved.len() {
-        if let Some(told) = state.moved.as_slice().get(at).copied() {
-            state.faults.push(told)?;
+        if let Some(report) = state.moved.as_slice().get(at).copied() {
+            state.faults.push(report)?;
         }
     }
     Ok(())
@@ -63,22 +63,22 @@ fn top_item(state: &mut Assembly, work: &mut Work) -> bool {
     true
 }
 
-/// Tells why a statement is not carried out.
-fn tell_failure(state: &mut Assembly, failure: Failure) -> Result<(), AllocError> {
+/// Reports why a statement is not carried out.
+fn report_failure(state: &mut Assembly, failure: Failure) -> Result<(), AllocError> {
     match failure {
         Failure::Memory => Err(AllocError),
-        Failure::Told(told) => state.tell(told),
+        Failure::Reported(report) => state.report(report),
     }
 }
 
 /// Goes on behind a statement that was not carried out.
 fn recover(state: &mut Assembly, failure: Failure) -> Result<(), AllocError> {
-    tell_failure(state, failure)?;
+    report_failure(state, failure)?;
     state.settle();
     if !state.stopped {
         state.skip_line();
         if let Some(failure) = state.failure {
-            tell_failure(state, failure)?;
+            report_failure(state, failure)?;
             state.settle();
         }
     }
@@ -89,7 +89,7 @@ fn recover(state: &mut Assembly, failure: Failure) -> Result<(), AllocError> {
 /// The source is at its end, with no END.
 fn end_source(state: &mut Assembly) -> Result<(), AllocError> {
     let place = state.stream.place();
-    state.tell(Told {
+    state.report(Report {
         place,
         fault: Fault::NoEnd,
     })

@@ -2,9 +2,9 @@
 #![tactic(auto)]
 
 mod faults;
-mod told;
+mod reports;
 mod words;
 
 pub use faults::Fault;
-pub use told::{Failure, Told};
-pub use words::push_told;
+pub use reports::{Failure, Report};
+pub use words::push_report;

@@ -1,15 +1,15 @@
 //! Words for a fault.
 
 use crate::faults::Fault;
-use crate::told::Told;
+use crate::reports::Report;
 use macro_names::{Name, text_of};
 use macro_stream::{Around, Place};
 use script_io::push_decimal;
 use std::alloc::AllocError;
 use word36::octal_digits;
 
-/// How many texts around a place are told of.
-const MOST_TOLD: u32 = 10;
+/// How many texts around a place are shown.
+const MOST_SHOWN: u32 = 10;
 
 fn push(out: &mut Vec<u8>, text: &str) -> Result<(), AllocError> {
     out.extend_from_slice(text.as_bytes())
@@ -169,15 +169,15 @@ fn push_words(out: &mut Vec<u8>, fault: Fault) -> Result<(), AllocError> {
 /// Adds the lines of the texts around a place, the innermost first; `outer` are those that the stream kept.
 fn push_around_place(out: &mut Vec<u8>, place: Place, outer: &[Around]) -> Result<(), AllocError> {
     let mut around = place.around;
-    for _ in 0..place.texts.min(MOST_TOLD) {
+    for _ in 0..place.texts.min(MOST_SHOWN) {
         push_of(out, " in ", around.name, " line ")?;
         push_decimal(out, around.line)?;
         out.push(b'\n')?;
         around = outer.get(around.outer).copied().unwrap_or(around);
     }
-    if place.texts > MOST_TOLD {
+    if place.texts > MOST_SHOWN {
         push(out, " and ")?;
-        push_decimal(out, place.texts - MOST_TOLD)?;
+        push_decimal(out, place.texts - MOST_SHOWN)?;
         push(out, " more\n")?;
     }
     Ok(())
@@ -185,16 +185,16 @@ fn push_around_place(out: &mut Vec<u8>, place: Place, outer: &[Around]) -> Resul
 
 /// Adds the lines of a fault: `?MACRO line:column letter words`, and the texts around it, each with its line; `outer` are
 /// the texts around places that the stream kept.
-pub fn push_told(out: &mut Vec<u8>, told: &Told, outer: &[Around]) -> Result<(), AllocError> {
-    let told = *told;
+pub fn push_report(out: &mut Vec<u8>, report: &Report, outer: &[Around]) -> Result<(), AllocError> {
+    let report = *report;
     push(out, "?MACRO ")?;
-    push_decimal(out, told.place.line)?;
+    push_decimal(out, report.place.line)?;
     out.push(b':')?;
-    push_decimal(out, told.place.column)?;
+    push_decimal(out, report.place.column)?;
     out.push(b' ')?;
-    out.push(told.fault.letter())?;
+    out.push(report.fault.letter())?;
     out.push(b' ')?;
-    push_words(out, told.fault)?;
+    push_words(out, report.fault)?;
     out.push(b'\n')?;
-    push_around_place(out, told.place, outer)
+    push_around_place(out, report.place, outer)
 }

@@ -21,8 +21,8 @@ pub fn needed(state: &mut Assembly, value: Value, what: Name) -> i64 {
     if let Some(number) = state.known(value) {
         return number;
     }
-    if let Some(told) = state.deferred {
-        state.fail(told.place, told.fault);
+    if let Some(report) = state.deferred {
+        state.fail(report.place, report.fault);
     } else {
         let fault = match state.missing {
             Some(name) => Fault::Late(what, name),

@@ -3,10 +3,10 @@
 
 mod cross;
 mod listings;
-mod told;
+mod reports;
 mod written;
 
 pub use cross::push_cross;
 pub use listings::push_listing;
-pub use told::push_faults;
+pub use reports::push_faults;
 pub use written::{Written, source_of};

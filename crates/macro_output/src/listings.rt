@@ -1,7 +1,7 @@
 //! The listing.
 
-use crate::told::sorted_faults;
-use macro_faults::{Told, push_told};
+use crate::reports::sorted_faults;
+use macro_faults::{Report, push_report};
 use macro_state::{Assembly, Expanded, Listing, Row};
 use macro_stream::Around;
 use script_io::{Parts, push_decimal, push_word};
@@ -20,7 +20,7 @@ struct Unlisted<'a> {
     /// Their rows.
     expanded_rows: &'a [Row],
     /// The faults.
-    faults: &'a [Told],
+    faults: &'a [Report],
     /// The texts around places that the stream kept.
     outer: &'a [Around],
 }
@@ -171,11 +171,11 @@ fn push_line_faults(
     unlisted: &mut Unlisted<'_>,
     number: u32,
 ) -> Result<(), AllocError> {
-    for told in unlisted.faults {
-        if told.place.line > number {
+    for report in unlisted.faults {
+        if report.place.line > number {
             break;
         }
-        push_told(out, told, unlisted.outer)?;
+        push_report(out, report, unlisted.outer)?;
         unlisted.faults = unlisted.faults.get(1..).unwrap_or(&[]);
     }
     Ok(())

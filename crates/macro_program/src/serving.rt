@@ -6,8 +6,8 @@ use macro_assembly::assemble;
 use macro_output::{Written, push_cross, push_faults, push_listing, source_of};
 use macro_state::Assembly;
 use program_shell::{
-    DONE, FAILED, Failure, FailureLines, REFUSED, read_input, refuse_arguments, report_failure,
-    report_to, write_output,
+    DONE, FAILED, Failure, FailureLines, REFUSED, file_error_text, read_file, read_input,
+    refuse_arguments, report_failure, report_to, write_output,
 };
 use script_io::{ByteIn, ByteOut, write_all};
 use std::alloc::{AllocError, Global};
@@ -22,7 +22,7 @@ pub const FAILURE_LINES: FailureLines = FailureLines {
     memory: b"macro: memory\n",
 };
 
-/// What is told where the words of a source are not those that are read back.
+/// The line where the words of a source are not those that are read back.
 const NOT_READ_BACK: &[u8] =
     b"macro: a fault of this program: what it wrote does not assemble to the words of the source\n";
 
@@ -116,11 +116,11 @@ fn output_of(
     })
 }
 
-/// Reports what is wrong with a file, and gives the exit status.
+/// Reports why a file cannot be written, and gives the exit status.
 fn report_file<E: ByteOut>(alloc: Global, file: &str, error: io::Error, errors: &mut E) -> u8
     requires { E.has_failed errors.old ≡ false }
 {
-    match format!(in alloc; "macro: {file}: {error}\n") {
+    match file_error_text(alloc, "macro: ", file, error) {
         Ok(text) => report_to(errors, text.as_str().as_bytes(), FAILED),
         Err(_) => report_failure(errors, &FAILURE_LINES, Failure::Memory),
     }
@@ -138,13 +138,9 @@ fn read_source<F: Files + AllocGlobal, R: ByteIn, E: ByteOut>(
     requires errors_sound { E.has_failed errors.old ≡ false }
     ensures { IfOk result (λ _. E.has_failed errors.new ≡ false) }
 {
-    let alloc = rt.alloc();
     match file {
-        Some(file) => match fs::read(rt, file.as_str()) {
-            Ok(source) => Ok(source),
-            Err(error) => Err(report_file(alloc, file.as_str(), error, errors)),
-        },
-        None => read_input(alloc, reader, usize::MAX, &FAILURE_LINES, errors),
+        Some(file) => read_file(rt, "macro: ", file.as_str(), &FAILURE_LINES, errors),
+        None => read_input(rt.alloc(), reader, usize::MAX, &FAILURE_LINES, errors),
     }
 }
 

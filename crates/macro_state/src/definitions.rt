@@ -64,7 +64,7 @@ impl Assembly {
                 };
                 self.put_definition(name, definition);
                 if value.is_some() && value != before.value {
-                    self.tell_moved(place, Fault::OtherPlace(name));
+                    self.report_moved(place, Fault::OtherPlace(name));
                 }
             }
             Some(before) => self.define_again(name, before, place, Fault::Duplicate(name)),
@@ -167,7 +167,7 @@ impl Assembly {
             };
             self.put_definition(name, definition);
             if self.pass == 2 && before.value != Some(value) {
-                self.tell_moved(place, Fault::OtherPlace(name));
+                self.report_moved(place, Fault::OtherPlace(name));
             }
         }
     }

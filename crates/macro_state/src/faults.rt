@@ -1,16 +1,16 @@
-//! What is told of a source.
+//! What is reported of a source.
 
 ghost use Rattle.std.specs.Prelude.{◌≡◌, ◌↔◌, None, IsSome, IsTrue};
 
 use crate::state::Assembly;
-use macro_faults::{Failure, Fault, Told};
+use macro_faults::{Failure, Fault, Report};
 use macro_stream::{Limit, Place, Stop};
 use std::alloc::AllocError;
 
-/// Whether a fault of this place is told already.
-fn is_told(faults: &[Told], place: Place) -> bool {
-    for told in faults {
-        if told.place.line == place.line && told.place.column == place.column {
+/// Whether a fault of this place is reported already.
+fn is_reported(faults: &[Report], place: Place) -> bool {
+    for report in faults {
+        if report.place.line == place.line && report.place.column == place.column {
             return true;
         }
     }
@@ -98,38 +98,38 @@ impl Assembly {
 
     /// A value that does not fit. In the first pass it is one that is not known, since names may still change.
     pub fn misfit(&mut self, place: Place, fault: Fault)
-        ensures told { self.old.pass ≡ 2 → self.new.failure ≡ None → ⊥ }
+        ensures reported { self.old.pass ≡ 2 → self.new.failure ≡ None → ⊥ }
         ensures failed { self.new.failure ≡ None → self.old.failure ≡ None }
         ensures numbers { self.new.numbers ≡ self.old.numbers }
     {
         if self.pass == 2 {
             self.fail(place, fault)
         } else if self.failure.is_none() {
-            self.deferred = Some(Told { place, fault });
+            self.deferred = Some(Report { place, fault });
         }
     }
 
-    /// Keeps what is told; one fault for a place.
-    pub fn tell(&mut self, told: Told) -> Result<(), AllocError> {
-        if told.fault.is_limit() {
+    /// Keeps a report; one for a place.
+    pub fn report(&mut self, report: Report) -> Result<(), AllocError> {
+        if report.fault.is_limit() {
             self.stopped = true;
         }
-        if is_told(self.faults.as_slice(), told.place) {
+        if is_reported(self.faults.as_slice(), report.place) {
             return Ok(());
         }
-        let mut told = told;
+        let mut report = report;
         if self.faults.len() >= Limit::Errors.most() as usize {
             self.stopped = true;
-            told.fault = Fault::Limit(Limit::Errors);
+            report.fault = Fault::Limit(Limit::Errors);
         }
-        self.faults.push(told)?;
+        self.faults.push(report)?;
         Ok(())
     }
 
     /// Keeps that something has another place in the second pass.
-    pub fn tell_moved(&mut self, place: Place, fault: Fault) {
-        if !self.is_failed() && !is_told(self.moved.as_slice(), place) {
-            let done = self.moved.push(Told { place, fault }).is_ok();
+    pub fn report_moved(&mut self, place: Place, fault: Fault) {
+        if !self.is_failed() && !is_reported(self.moved.as_slice(), place) {
+            let done = self.moved.push(Report { place, fault }).is_ok();
             self.kept(done);
         }
     }

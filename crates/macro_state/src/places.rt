@@ -102,7 +102,7 @@ impl Assembly {
             let done = self.pool_bases.push(base).is_ok();
             self.kept(done);
         } else if !self.pool.is_empty() && known != Some(base) {
-            self.tell_moved(self.statement, Fault::OtherPool);
+            self.report_moved(self.statement, Fault::OtherPool);
         }
         self.pools = self.pools.saturating_add(1);
         self.settle_labels(base);

@@ -1,7 +1,7 @@
 //! The state of an assembly.
 
 use crate::listing::Listing;
-use macro_faults::{Failure, Told};
+use macro_faults::{Failure, Report};
 use macro_names::Name;
 use macro_stream::{Place, Range, Stream};
 use macro_symbols::{Definitions, Dummy, MacroDefinition, Meanings, PlacedWords};
@@ -83,7 +83,7 @@ pub struct Assembly {
     /// A name that the first pass does not know.
     pub missing: Option<Name>,
     /// A value that did not fit in the first pass.
-    pub deferred: Option<Told>,
+    pub deferred: Option<Report>,
     /// Whether a text in brackets is still to come in the statement.
     pub text_due: bool,
     /// Why the statement is not carried out. Where there is a reason, nothing more is read, and nothing is done.
@@ -115,9 +115,9 @@ pub struct Assembly {
     /// The word of each place.
     pub image: PlacedWords,
     /// What is wrong.
-    pub faults: Vec<Told>,
+    pub faults: Vec<Report>,
     /// What has another place in the second pass.
-    pub moved: Vec<Told>,
+    pub moved: Vec<Report>,
     /// Whether END was read.
     pub ended: bool,
     /// Whether a limit was reached.

@@ -18,7 +18,7 @@ within : {A : Type 0} (b : Bool) (found : Result A Stop) (stop : Stop) (a : A) �
 within true found stop a e = e
 within false found stop a e = cc
 
--- the character that is told is the first of the text
+-- the character that is given is the first of the text
 pub first-told : (calls : ℕ) (es : List Event) (next : Option ℕ) → next_of calls es ≡ Ok next → next ≡ slice_get (text_of es) 0
 first-told calls [] next e = cc
 first-told calls (Gives item ∷ es) next e =

@@ -99,7 +99,7 @@ pub struct Frame {
     pub rounds: Rounds,
     /// The line and the column of the source at which the outermost text around it was put in front.
     pub origin: (u32, u32),
-    /// How many of the texts up to this one are told of around a place: 0 in the source.
+    /// How many of the texts up to this one are named around a place: 0 in the source.
     pub named: u32,
     /// The index of the text around it, in the list that the stream keeps.
     pub outer: usize,

@@ -40,7 +40,7 @@ impl Limit {
         }
     }
 
-    /// The name that the refusal tells.
+    /// The name in the line of the refusal.
     pub fn name(self) -> &'static str {
         match self {
             Limit::Depth => "DEPTH",

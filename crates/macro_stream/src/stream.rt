@@ -132,7 +132,7 @@ impl Stream {
         self.top
     }
 
-    /// How many texts are told of around what is next: 0 in the source.
+    /// How many texts around what is next are named: 0 in the source.
     pub fn named(&self) -> u32 {
         self.top.named
     }
@@ -318,7 +318,7 @@ impl Stream {
         self.put(frame)
     }
 
-    /// Puts a text of the source in front that is the source itself: its place is told by line and column.
+    /// Puts a text of the source in front that is the source itself: its line and column are its place.
     pub fn enter_source(&mut self, range: Range, line: u32, column: u32) -> Result<(), Stop>
         ensures deep { 200 ≤ length self.old.lower.items + 1 → result ≡ Err (Stop.Limit Limit.Depth) }
         ensures failed { length self.old.lower.items + 1 < 200 → IfErr result (λ stop. stop ≡ Stop.Memory) }

@@ -1,4 +1,4 @@
--- How an answer tells the image that was read, and what came of a source.
+-- What an answer says of the image that was read, and of a source.
 use Rattle.std.specs.Prelude.{◌≡◌, ℕ, List, Option, None, Result, Ok, Err, IsOk, IsErr, IsSome}
 use Rattle.mac_asm.specs.Outcome.{outcome_of}
 use Rattle.source_check.specs.Same.{ComesTo}
@@ -20,7 +20,7 @@ abbrev pub told : List ℕ → Option Packing → Result Loaded ImageFault → R
 told file other (Ok image) = Ok image
 told file other (Err fault) = Err (fault_text file fault other)
 
--- a program with the words and the start of the image, or the lines on what is wrong; where there was no memory nothing is told
+-- a program with the words and the start of the image, or the lines on what is wrong; where there was no memory nothing is said
 abbrev pub Answers : {E : Type 0} → Result Assembled E → List ℕ → Option Packing → Result Loaded ImageFault → Type 0
 Answers (Ok (variants.Program program)) file other read = read ≡ Ok (loaded program.image)
 Answers (Ok (variants.Refused text)) file other read = told file other read ≡ Err text.items
@@ -31,7 +31,7 @@ abbrev pub AnswersImage : {E : Type 0} → Result Assembled E → List ℕ → P
 AnswersImage result file from bytes = Answers result file (packing_that_fits wants.Image bytes) (image_in from bytes)
 
 -- a program has exactly the image of the source that it stands for, and stands for that of its file where that has one; a
--- source is refused only where it has none; where there was no memory nothing is told
+-- source is refused only where it has none; where there was no memory nothing is said
 abbrev pub AnswersSource : {E : Type 0} → Result Assembled E → List ℕ → Type 0
 AnswersSource (Ok (variants.Program program)) own =
     ComesTo (source_for program own) program.image × (IsOk (outcome_of own) → program.written ≡ None)

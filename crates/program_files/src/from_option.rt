@@ -1,4 +1,4 @@
-//! The option `--from`, by which a program is told how core images are packed.
+//! The option `--from`, which says how core images are packed.
 
 use clap::{Arg, ArgMatches};
 use image_files::{Packing, packing_named};

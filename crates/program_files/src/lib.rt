@@ -5,8 +5,8 @@ mod from_option;
 mod macro_sources;
 mod names;
 mod programs;
-mod tellers;
-mod told;
+mod reporters;
+mod reports;
 
 pub use from_option::{make_from, packing_in};
 pub use names::is_image_name;

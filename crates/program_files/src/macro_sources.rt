@@ -3,8 +3,8 @@ ghost use Rattle.std.specs.Prelude.{IfOk};
 ghost use Rattle.source_check.specs.Same.{ComesTo};
 ghost use Rattle.program_files.specs.Reads.{HasWritten, HandsOver};
 
-use crate::tellers::is_told_by_subset;
-use crate::told::told_text;
+use crate::reporters::is_reported_by_subset;
+use crate::reports::report_text;
 use macro_assembly::assemble;
 use macro_output::{Written, source_of};
 use macro_state::Assembly;
@@ -15,7 +15,7 @@ use source_labels::{
 };
 use std::alloc::{AllocError, Global};
 
-/// What is told where the words of a source are not those that are read back.
+/// The line where the words of a source are not those that are read back.
 const NOT_READ_BACK: &str =
     "a fault of this program: what it wrote does not assemble to the words of the source";
 
@@ -75,10 +75,10 @@ fn refusal_text(
     let mut report = Vec::from_slice(alloc, state.typed.as_slice())?;
     let faults = faults_of(alloc, source.text.as_slice(), first)?;
     let faults = faults.as_slice();
-    let text = if is_told_by_subset(state, source.text.as_slice(), faults)? {
+    let text = if is_reported_by_subset(state, source.text.as_slice(), faults)? {
         faults_text(alloc, source, faults, most)?
     } else {
-        told_text(state, source, most)?
+        report_text(state, source, most)?
     };
     report.extend_from_slice(text.as_str().as_bytes())?;
     Ok(report)

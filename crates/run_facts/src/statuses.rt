@@ -1,4 +1,4 @@
-//! The exit statuses that tell how the jobs of a run ended; that of wrong arguments and that of a failure are those of
+//! The exit statuses that say how the jobs of a run ended; that of wrong arguments and that of a failure are those of
 //! every program.
 
 /// All jobs ended by EXIT, LOGOUT or HALT, or the help or the version was asked for and written.

@@ -14,15 +14,15 @@ behind place s e t d after most start = grind (arith, nat_tests)
 past : (place s e t d : ℕ) → e ≤ place → reach place t d ≤ reach place s e → t ≤ place → d ≤ place
 past place s e t d after most start = grind (arith, nat_tests)
 
--- no label comes nearer than one that tells of s up to before e
+-- no label comes nearer than one of the addresses from s up to before e
 abbrev IsFarther : ℕ → ℕ → ℕ → Label → Type 0
 IsFarther place s e t = reach place t.place t.end ≤ reach place s e
 
--- a label that tells of the place stands at s or before it
+-- a label of this address stands at s or before it
 abbrev IsEarlier : ℕ → ℕ → Label → Type 0
 IsEarlier place s t = t.place ≤ place → place < t.end → t.place ≤ s
 
--- a label does not tell of the place
+-- a label is none of this address
 abbrev IsElsewhere : ℕ → Label → Type 0
 IsElsewhere place t = t.place ≤ place → t.end ≤ place
 

@@ -7,7 +7,7 @@ use Rattle.source_labels.specs.declared.sources.Tried.{Tried}
 use Rattle.source_labels.specs.declared.sources.Tried.TheVariants as variants
 
 -- a program has the image of its source, and a source is refused only where it has none; where there was no memory nothing is
--- told
+-- said
 abbrev pub AssemblesTo : {E : Type 0} → Result Tried E → Result assembly.Assembled Fault → Type 0
 AssemblesTo (Ok (variants.Program program)) outcome =
     outcome ≡ Ok (record { words = program.image.words.items; start = program.image.start })

@@ -128,7 +128,7 @@ impl Pair {
         true
     }
 
-    /// Makes what a number stands for happen to both, and tells whether they answer alike. Of 128, four
+    /// Makes what a number stands for happen to both. Whether they answer alike. Of 128, four
     /// begin a job at a line, two kill one, and one of 1,024 is a restart; the others are a step and a
     /// tick. Now and then there is no such line or job: there are no more jobs than blocks.
     fn act(&mut self, x: u64, images: &[Image]) -> bool {

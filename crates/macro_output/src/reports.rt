@@ -1,6 +1,6 @@
 //! What is wrong with a source.
 
-use macro_faults::{Told, push_told};
+use macro_faults::{Report, push_report};
 use macro_stream::Around;
 use script_io::push_decimal;
 use std::alloc::{AllocError, Global};
@@ -17,20 +17,20 @@ struct FaultKey {
 }
 
 /// The faults by line and column.
-pub fn sorted_faults(alloc: Global, faults: &[Told]) -> Result<Vec<Told>, AllocError> {
+pub fn sorted_faults(alloc: Global, faults: &[Report]) -> Result<Vec<Report>, AllocError> {
     let mut keys = Vec::new(alloc);
-    for (index, told) in faults.iter().enumerate() {
+    for (index, report) in faults.iter().enumerate() {
         keys.push(FaultKey {
-            line: told.place.line,
-            column: told.place.column,
+            line: report.place.line,
+            column: report.place.column,
             index,
         })?;
     }
     keys.sort()?;
     let mut sorted = Vec::new(alloc);
     for key in &keys {
-        if let Some(told) = faults.get(key.index) {
-            sorted.push(*told)?;
+        if let Some(report) = faults.get(key.index) {
+            sorted.push(*report)?;
         }
     }
     Ok(sorted)
@@ -41,19 +41,19 @@ pub fn sorted_faults(alloc: Global, faults: &[Told]) -> Result<Vec<Told>, AllocE
 pub fn push_faults(
     out: &mut Vec<u8>,
     alloc: Global,
-    faults: &[Told],
+    faults: &[Report],
     outer: &[Around],
 ) -> Result<(), AllocError> {
     let sorted = sorted_faults(alloc, faults)?;
     let mut written = 0usize;
-    for told in &sorted {
+    for report in &sorted {
         if written >= MOST_WRITTEN {
             out.extend_from_slice(b"and ")?;
             push_decimal(out, sorted.len().saturating_sub(written))?;
             out.extend_from_slice(b" more errors\n")?;
             return Ok(());
         }
-        push_told(out, told, outer)?;
+        push_report(out, report, outer)?;
         written += 1;
     }
     Ok(())

@@ -1,7 +1,7 @@
-//! Which assembler tells what is wrong with a source that both refuse.
+//! Which assembler reports what is wrong with a source that both refuse.
 
 use mac_asm::AsmCode;
-use macro_faults::{Fault as MacroFault, Told};
+use macro_faults::{Fault as MacroFault, Report};
 use macro_names::Name;
 use macro_operations::{of_dialect, of_subset};
 use macro_state::Assembly;
@@ -28,17 +28,17 @@ fn is_beyond(state: &Assembly, statement: &[u8]) -> bool {
     is_new || is_assignment(statement) || state.meanings.get(name).is_some()
 }
 
-/// Whether what MACRO-10 tells is on the same line as a fault of the subset at a column, and does not show that it reads more
-/// of the line.
-fn is_same(told: &Told, fault: Fault, column: usize) -> bool {
+/// Whether what MACRO-10 reports is on the same line as a fault of the subset at a column, and does not show that it reads
+/// more of the line.
+fn is_same(report: &Report, fault: Fault, column: usize) -> bool {
     if fault.code == AsmCode::NoEnd {
-        return matches!(&told.fault, MacroFault::NoEnd);
+        return matches!(&report.fault, MacroFault::NoEnd);
     }
-    if told.place.line as usize != fault.line {
+    if report.place.line as usize != fault.line {
         return false;
     }
     fault.code != AsmCode::Syntax
-        || told.place.column as usize <= column && is_of_grammar(told.fault)
+        || report.place.column as usize <= column && is_of_grammar(report.fault)
 }
 
 /// Whether a fault of the subset is one of MACRO-10 too.
@@ -52,23 +52,23 @@ fn is_common(state: &Assembly, source: &[u8], fault: Fault) -> Result<bool, Allo
             .faults
             .as_slice()
             .iter()
-            .any(|told| is_same(told, fault, column)),
+            .any(|report| is_same(report, fault, column)),
     )
 }
 
-/// The last line of which MACRO-10 tells something.
+/// The last line of which MACRO-10 reports something.
 fn last_line(state: &Assembly) -> usize {
     let mut last = 0u32;
-    for told in &state.faults {
-        last = last.max(told.place.line);
+    for report in &state.faults {
+        last = last.max(report.place.line);
     }
     last as usize
 }
 
-/// Whether the assembler of the subset tells what is wrong with a source of which it finds these faults: MACRO-10 refuses
-/// each of their lines too, as far as it looked at them, and reads no more of them. Else the source has something of
-/// MACRO-10, which the subset would take for a fault.
-pub fn is_told_by_subset(
+/// Whether the assembler of the subset reports what is wrong with a source of which it finds these faults: MACRO-10
+/// refuses each of their lines too, as far as it looked at them, and reads no more of them. Else the source has something
+/// of MACRO-10, which the subset would take for a fault.
+pub fn is_reported_by_subset(
     state: &Assembly,
     source: &[u8],
     faults: &[Fault],

@@ -6,8 +6,8 @@ use std::alloc::{AllocError, AllocFailed};
 
 /// A fault at its place.
 #[derive(Clone, Copy)]
-pub struct Told {
-    /// Where it is told.
+pub struct Report {
+    /// Where it is.
     pub place: Place,
     /// What is wrong.
     pub fault: Fault,
@@ -19,13 +19,13 @@ pub enum Failure {
     /// There is no memory.
     Memory,
     /// What is wrong with it.
-    Told(Told),
+    Reported(Report),
 }
 
 impl Failure {
     /// The failure of a fault.
     pub fn of(place: Place, fault: Fault) -> Failure {
-        Failure::Told(Told { place, fault })
+        Failure::Reported(Report { place, fault })
     }
 
     /// The failure of a stream that stops at a place.

@@ -1,6 +1,6 @@
-//! What MACRO-10 tells of a source, in the form in which the faults of the subset are told.
+//! What MACRO-10 reports of a source, in the form in which the faults of the subset are reported.
 
-use macro_faults::{Fault as MacroFault, Told, push_told};
+use macro_faults::{Fault as MacroFault, Report, push_report};
 use macro_names::{Name, text_of};
 use macro_state::Assembly;
 use script_io::Parts;
@@ -14,21 +14,21 @@ use std::str;
 const DECIMAL: &str = "write ^D before a number in decimal, as in ^D19, or a point behind it";
 
 /// Whether a fault stands behind another.
-fn is_behind(told: &Told, other: &Told) -> bool {
-    let (place, before) = (told.place, other.place);
+fn is_behind(report: &Report, other: &Report) -> bool {
+    let (place, before) = (report.place, other.place);
     place.line > before.line || place.line == before.line && place.column > before.column
 }
 
 /// The faults by their places.
-fn by_place(alloc: Global, faults: &[Told]) -> Result<Vec<Told>, AllocError> {
-    let mut sorted: Vec<Told> = Vec::new(alloc);
-    for told in faults {
+fn by_place(alloc: Global, faults: &[Report]) -> Result<Vec<Report>, AllocError> {
+    let mut sorted: Vec<Report> = Vec::new(alloc);
+    for report in faults {
         let position = sorted
             .as_slice()
             .iter()
-            .position(|other| is_behind(other, told))
+            .position(|other| is_behind(other, report))
             .unwrap_or(sorted.len());
-        sorted.insert(position.min(sorted.len()), *told)?;
+        sorted.insert(position.min(sorted.len()), *report)?;
     }
     Ok(sorted)
 }
@@ -122,10 +122,14 @@ fn advice_on_literal(
 }
 
 /// Advice on a fault, if there is any.
-fn advice_on(state: &Assembly, source: &[u8], told: &Told) -> Result<Option<String>, AllocError> {
-    let (alloc, line) = (state.alloc, told.place.line as usize);
-    let is_in_source = told.place.texts == 0;
-    match told.fault {
+fn advice_on(
+    state: &Assembly,
+    source: &[u8],
+    report: &Report,
+) -> Result<Option<String>, AllocError> {
+    let (alloc, line) = (state.alloc, report.place.line as usize);
+    let is_in_source = report.place.texts == 0;
+    match report.fault {
         MacroFault::NotDefined(name) => advice_on_name(state, name),
         MacroFault::Refused(name) | MacroFault::Segments(name) => {
             advice_on_word(alloc, text_of(name).as_slice())
@@ -144,19 +148,19 @@ fn push_fault(
     text: &mut String,
     state: &Assembly,
     source: &Source<'_>,
-    told: &Told,
+    report: &Report,
 ) -> Result<(), AllocError> {
     let alloc = state.alloc;
     let mut written = Vec::new(alloc);
-    push_told(&mut written, told, state.stream.around())?;
+    push_report(&mut written, report, state.stream.around())?;
     let mut lines = Parts::of(written.as_slice(), b'\n');
     let mut reason = String::new(alloc);
     push_shown(&mut reason, words_in(lines.next().unwrap_or(&[])))?;
     let place = ErrorPlace {
-        line: told.place.line as usize,
-        column: told.place.column as usize,
+        line: report.place.line as usize,
+        column: report.place.column as usize,
     };
-    let mark = mark_of(alloc, told.fault)?;
+    let mark = mark_of(alloc, report.fault)?;
     push_error(text, source, place, reason.as_str(), mark.as_str())?;
     for _ in 0..written.len() {
         let Some(line) = lines.next() else {
@@ -168,7 +172,7 @@ fn push_fault(
             text.push('\n')?;
         }
     }
-    match advice_on(state, source.text.as_slice(), told)? {
+    match advice_on(state, source.text.as_slice(), report)? {
         Some(advice) => write!(text, "    {}\n", advice.as_str()),
         None => Ok(()),
     }
@@ -176,12 +180,16 @@ fn push_fault(
 
 /// What is wrong with a source by its assembly, in whole lines by their places: `most` of the faults, and how many more there
 /// are.
-pub fn told_text(state: &Assembly, source: &Source<'_>, most: usize) -> Result<String, AllocError> {
-    let mut report = String::new(state.alloc);
+pub fn report_text(
+    state: &Assembly,
+    source: &Source<'_>,
+    most: usize,
+) -> Result<String, AllocError> {
+    let mut text = String::new(state.alloc);
     let faults = by_place(state.alloc, state.faults.as_slice())?;
-    for told in faults.as_slice().iter().take(most) {
-        push_fault(&mut report, state, source, told)?;
+    for report in faults.as_slice().iter().take(most) {
+        push_fault(&mut text, state, source, report)?;
     }
-    push_more(&mut report, source.file, faults.len(), most, "")?;
-    Ok(report)
+    push_more(&mut text, source.file, faults.len(), most, "")?;
+    Ok(text)
 }
