@@ -54,8 +54,8 @@ pub trait Watch {
     /// Whether it looks at each round.
     ghost looks: { Self → Bool };
 
-    /// What it makes of a watch to be asked behind a round that left a state, in which a job ran, if one did, and whether it
-    /// ends the run there.
+    /// How a watch changes where it is asked after a round, by the state that the round left and the job that ran in it, if
+    /// one did; and whether the watch ends the run there.
     ghost Asks: { Self → Self → S → Option ℕ → Bool → Type 0 };
 
     /// Whether it looks at each round; where it does not, many rounds may be made at once, and it ends no run.

@@ -36,7 +36,7 @@ fn operand(state: &mut Assembly, work: &mut Work, start: Place, least: u8) {
     term(state, work)
 }
 
-/// Goes on behind a term, before which so many signs stood that are not its own.
+/// Goes on behind a term. Its signs are those behind the first `signs` that are kept.
 pub fn behind(state: &mut Assembly, work: &mut Work, start: Place, least: u8, signs: usize) {
     let value = apply_signs(state, or_zero(work.value()), signs);
     let left = LeftSide {

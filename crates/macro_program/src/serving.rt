@@ -44,7 +44,7 @@ enum Text {
     Words(Written),
     /// What is wrong with its source.
     Errors(Vec<u8>),
-    /// Its words are not those to which what was written for them assembles.
+    /// The source that was written for its words assembles to other ones.
     NotReadBack,
 }
 
@@ -235,10 +235,10 @@ fn answer<F: Files + AllocGlobal, W: ByteOut, E: ByteOut>(
     status
 }
 
-/// Reads the source of the file that the arguments name, or of the reader, assembles it, and writes the source of its
-/// words, or what is wrong with it, to `writer`; the listing and the cross-reference to the files that the arguments name
-/// for them; and the lines of PRINTX to `errors`. They begin with the program's name. Where they ask for the help or the
-/// version, it writes that, and reads nothing. It gives the exit status: 0 where all was written; 1 where the source is
+/// Reads the source of the file that the arguments name, or of the reader, and assembles it. The source of its words, or
+/// what is wrong with it, goes to `writer`; the listing and the cross-reference go to the files that the arguments name for
+/// them; the lines of PRINTX go to `errors`. The arguments begin with the program's name. Where they ask for the help or
+/// the version, it writes that, and reads nothing. It gives the exit status: 0 where all was written; 1 where the source is
 /// refused, and 2 where the arguments are, which is reported to `errors`; 3 where a file, the reader, an output or memory
 /// failed.
 pub fn program<F: Files + AllocGlobal, S: AsStr, R: ByteIn, W: ByteOut, E: ByteOut>(

@@ -44,7 +44,7 @@ pub fn begin_statement(state: &mut Assembly, in_literal: bool) -> Place {
     place
 }
 
-/// Whether `=` follows the name of an operation, or of none. Behind IRP no mark is looked at.
+/// Whether `=` follows a name, which is that of this operation or of none. Behind IRP it looks no further.
 fn is_assignment(state: &mut Assembly, operation: &Option<BuiltIn>) -> bool {
     match operation {
         Some(BuiltIn::Pseudo(Pseudo::Irp(_))) => false,

@@ -146,8 +146,8 @@ pub fn open_bracket(state: &mut Assembly, bracket: u8) -> Place {
     state.statement
 }
 
-/// Closes a bracket, in which this value is: nothing is 0 in `< >`, and not possible in `( )`. The statement around is
-/// the statement again.
+/// Closes a bracket that holds this value, and goes back to the statement around it. An empty `< >` is 0; an empty `( )`
+/// is refused.
 pub fn close_bracket(
     state: &mut Assembly,
     bracket: u8,
@@ -269,7 +269,7 @@ pub enum Meant {
     Pseudo(Pseudo),
 }
 
-/// What a name stands for, which is this operation or none.
+/// What a name stands for: this operation or, where there is none, a value.
 fn meant_by(state: &mut Assembly, name: Name, place: Place, operation: Option<BuiltIn>) -> Meant {
     match operation {
         Some(BuiltIn::Operation(operation)) => Meant::Operation(operation),
@@ -297,7 +297,7 @@ pub fn meant_in_brackets(state: &mut Assembly, name: Name, place: Place) -> Mean
     meant_by(state, name, place, operation)
 }
 
-/// What a name stands for at the beginning of a statement, where it is this operation or none.
+/// What a name stands for at the beginning of a statement: a macro, a label, this operation, or else a value.
 pub fn meant_at_start(
     state: &mut Assembly,
     name: Name,

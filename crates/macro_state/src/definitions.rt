@@ -112,7 +112,7 @@ impl Assembly {
         }
     }
 
-    /// Leaves 0 in a name whose value was wrong in the second pass, where nothing was.
+    /// Gives 0 to a name that has no value, where the value for it was wrong in the second pass.
     pub fn assign_wrong(&mut self, name: Name, place: Place) {
         let has_value = match self.symbols.get(name) {
             Some(definition) => definition.value.is_some(),

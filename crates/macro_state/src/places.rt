@@ -116,7 +116,7 @@ impl Assembly {
         }
     }
 
-    /// The names of the variables so far, sorted; there are none behind it.
+    /// Takes the names of the variables so far out of the state, and sorts them.
     fn take_variables(&mut self) -> Vec<u64> {
         let mut names = Vec::new(self.alloc);
         let mut done = true;
@@ -147,7 +147,7 @@ impl Assembly {
         }
     }
 
-    /// Takes the labels from this one on for labels of the pool, whose words before this one are not theirs.
+    /// Moves the labels from index `first_label` on to the pool. They stand in the literal whose words begin at `first_word`.
     pub fn take_labels(&mut self, first_label: usize, first_word: usize) {
         let offset = self.pool.len();
         for at in first_label..self.labels.len() {
@@ -164,7 +164,7 @@ impl Assembly {
         self.labels.truncate(first_label);
     }
 
-    /// Takes the words from this one on for the pool; gives their place, where this pass knows it.
+    /// Moves the words from this index on to the pool; gives their place there, where this pass knows it.
     pub fn take_literal(&mut self, first: usize) -> Value {
         let offset = self.pool.len();
         for at in first..self.words.len() {

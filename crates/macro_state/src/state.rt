@@ -203,7 +203,7 @@ impl Assembly {
         self.settle();
     }
 
-    /// Forgets what a statement left that was not carried out.
+    /// Forgets what is left of a statement that was not carried out.
     pub fn settle(&mut self) {
         self.failure = None;
         self.forget_words();
@@ -218,7 +218,7 @@ impl Assembly {
         self.here.saturating_add(self.phase.unwrap_or(0))
     }
 
-    /// Where a text is called that is put in front: the line and column of a place.
+    /// The line and the column of a place, from which a text is put in front.
     pub fn spot(place: Place) -> (u32, u32) {
         (place.line, place.column)
     }

@@ -65,7 +65,7 @@ impl Value {
 }
 
 impl Assembly {
-    /// The number of a value, where it is known. One that is large is the first number that no word holds.
+    /// The number of a value, where it is known. For one beyond 64 bits it is 2^36, which no word holds.
     pub fn known(&self, value: Value) -> Option<i64> {
         match value.number {
             None => None,

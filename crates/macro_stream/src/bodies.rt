@@ -92,7 +92,7 @@ impl Stream {
         })
     }
 
-    /// Stores one run of name characters, or the mark of the dummy that it is; gives the place behind it.
+    /// Stores one run of name characters, or the mark of the dummy that it is; gives the position behind it.
     fn store_run(
         &mut self,
         from: usize,

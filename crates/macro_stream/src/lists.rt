@@ -13,7 +13,7 @@ fn is_space(item: Item) -> bool {
     }
 }
 
-/// The place of the `>` that closes the `<` at the start of a text; its end where there is none.
+/// The position of the `>` that closes the `<` at the start of a text; the text's end where there is none.
 fn closed_at(items: &[Item], range: Range) -> usize {
     let mut depth = 0usize;
     for at in range.start..range.end {

@@ -373,7 +373,7 @@ impl Stream {
         Ok(Arguments::Call { start, count })
     }
 
-    /// Keeps the arguments of the text around rounds; gives their place.
+    /// Keeps the arguments of the text around rounds; gives their position.
     pub fn keep_outside(&mut self, arguments: Arguments) -> Result<usize, Stop> {
         let at = self.outside.len();
         self.outside.push(arguments)?;

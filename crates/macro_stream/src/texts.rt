@@ -36,7 +36,7 @@ impl Range {
     }
 }
 
-/// The item at a place of the storage; a line end where there is none.
+/// The item at a position of the storage; a line end where there is none.
 pub fn item_at(items: &[Item], at: usize) -> Item
     ensures { result ≡ item_of items.now at }
 {

@@ -17,7 +17,7 @@ static OTHERS: [&str; 41] = [
 /// How many operations there are.
 const OPERATIONS: u16 = 0o1000;
 
-/// Whether two names in upper case are as long, and differ in one character or by two neighbours that changed places.
+/// Whether two names in upper case are as long, and differ in one character or by two neighbours that are swapped.
 fn differs_in_place(one: &[u8], other: &[u8]) -> bool {
     if one.len() != other.len() {
         return false;

@@ -15,7 +15,7 @@ pub struct Literals {
     pub end: u32,
 }
 
-/// A name of a source that stands for a number, and for no place.
+/// A name of a source that stands for a number, and for no address.
 #[derive(Clone, Copy, Debug)]
 pub struct NamedNumber {
     /// Its six characters in SIXBIT, as a label has them.
@@ -31,7 +31,7 @@ pub struct Places {
     pub labels: Vec<Label>,
     /// The literals.
     pub literals: Literals,
-    /// The names that stand for numbers. No place is shown by them.
+    /// The names that stand for numbers. No address is written by them.
     pub numbers: Vec<NamedNumber>,
 }
 

@@ -14,8 +14,8 @@ use source_labels::{Assembled, Program, Source, warnings_of};
 use word36::{Address, Image};
 
 /// Gives the programs of files: sources, which it assembles, and core images, whose words are packed so. Reports what sources
-/// have typed out by PRINTX, and what is wrong with each file that is refused, `most` faults of each source; then there are
-/// none.
+/// have typed out by PRINTX, and what is wrong with each file that is refused, `most` faults of each source. Where one is
+/// refused it gives no programs.
 pub fn assemble_all<'a>(
     sources: &[Source<'a>],
     from: Packing,

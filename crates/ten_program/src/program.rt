@@ -55,8 +55,8 @@ fn read_sources<'a, H: Host>(
     true
 }
 
-/// Writes what is kept of a run that had this status to a file, and gives the status; or reports by a line that begins so
-/// why it cannot be written, and gives `FAILED`.
+/// Writes what is kept of a run that had this status to a file, and gives the status. Where the file cannot be written, it
+/// reports why in a line that begins with `head`, and gives `FAILED`.
 fn write_kept<H: Host>(
     host: &mut H,
     head: &str,

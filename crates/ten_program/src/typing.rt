@@ -105,8 +105,8 @@ impl Typing {
         Ok(())
     }
 
-    /// No job is ready, and some wait for characters, or none: whether more come. Where what was typed elsewhere
-    /// finds no room, the rest of it is lost.
+    /// Whether more characters come, where no job is ready. `is_awaited` where some job waits for characters. The rest
+    /// of a line that found no room elsewhere is lost.
     pub fn goes_on(&mut self, is_awaited: bool) -> bool {
         self.typed = self.text.len();
         self.is_awaited = is_awaited;
