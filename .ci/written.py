@@ -1,8 +1,8 @@
 #!/usr/bin/env python3
 """Compares what the programs write with what is written down for it.
 
-- A document has examples: a block marked `queue`, `run` or `asm`, behind it a block marked `output`, and where standard
-  error is told something a block marked `told`.
+- A document has examples: a block marked `queue`, `run` or `asm`, behind it a block marked `output`, and where something
+  is written to standard error a block marked `errors`.
 - A script or a source of examples/ or tests/, NAME.queue, NAME.run or NAME.mac, has NAME.out. A comment that begins
   with `; lockmon ` has the words by which it is served. In a folder with a file of runs those without NAME.out are left
   to .ci/stored_runs.py, and so is a source that begins with `; macro `.
@@ -85,10 +85,10 @@ def cases_of_document(name):
             if lacks_output:
                 raise Wrong(f"{place}: the script before it has no output")
             script, lacks_output = ((mark,), text), True
-        elif mark == "output" and lacks_output or mark == "told" and script and not lacks_output:
+        elif mark == "output" and lacks_output or mark == "errors" and script and not lacks_output:
             lacks_output = False
-            yield Case(place, *script, text, mark == "told")
-        elif mark in ("output", "told"):
+            yield Case(place, *script, text, mark == "errors")
+        elif mark in ("output", "errors"):
             raise Wrong(f"{place}: it stands behind no script")
     if lacks_output:
         raise Wrong(f"{name}: its last script has no output")
