@@ -8,8 +8,8 @@ pub const PROGRAM: &str =
 pub const PROGRAM_END: &str = "As in:  ten examples/counter.mac\n\
     Lines of standard input are typed at line 0; with several files, those that begin with n: at line n.\n\
     What jobs type out goes to standard output, how each ended to standard error.\n\
-    Jobs, ticks, steps, levels, groups and amounts are told in decimal, ids of requests too, with a\n\
-    point behind (27. is 33 in a source); places, words, registers and user codes are told in octal.\n\
+    Jobs, ticks, steps, levels, groups and amounts are in decimal, ids of requests too, with a\n\
+    point behind (27. is 33 in a source); addresses, words, registers and user codes are in octal.\n\
     Status: 0 all jobs ended by EXIT, LOGOUT or HALT; 1 a source was refused, or a job was left waiting\n\
     or stopped by CTRL-C; 2 wrong words; 3 reading, writing or memory failed; 4 jobs wait for each\n\
     other in a circle; 5 the run ended by --steps; 6 the processor stopped a job at a fault.";
@@ -19,26 +19,26 @@ pub const STEPS: &str = "ends the run after so many steps";
 
 /// `--trace`.
 pub const TRACE: &str =
-    "tells each step on standard error: tick, job, place, instruction, what changed";
+    "writes each step to standard error: tick, job, address, instruction, what changed";
 
 /// `--locks`.
 pub const LOCKS: &str =
-    "tells each ENQ., DEQ., ENQC., grant and time limit that ends on standard error";
+    "writes each ENQ., DEQ., ENQC., grant and limit that ends to standard error";
 
 /// `--history`.
 pub const HISTORY: &str =
-    "tells the last N steps of each job that did not end by EXIT, LOGOUT or HALT, 1 to 10000";
+    "writes the last N steps of each job that did not end by EXIT, LOGOUT or HALT, 1 to 10000";
 
 /// `--waits`.
 pub const WAITS: &str =
-    "tells waits for locks of more than N ticks, how long each grant took, and a table by lock";
+    "reports waits for locks of more than N ticks, how long each grant took, and a table by lock";
 
 /// `--echo`.
 pub const ECHO: &str = "writes what is typed to standard output too, before what the jobs answer";
 
 /// `--max-errors`.
 pub const MAX_ERRORS: &str =
-    "tells so many errors of a source, 1 to 1000, and counts the others [default: 20]";
+    "reports so many errors of a source, 1 to 1000, and counts the others [default: 20]";
 
 /// `--record`.
 pub const RECORD: &str =
