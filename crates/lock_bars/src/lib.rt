@@ -4,6 +4,7 @@
 mod arrows;
 mod bars;
 mod columns;
+mod commands;
 mod course;
 mod drawing;
 mod errors;
@@ -17,6 +18,7 @@ mod scripts;
 pub use arrows::Arrow;
 pub use bars::{Bar, record_line};
 pub use columns::Column;
+pub use commands::do_command;
 pub use course::Course;
 pub use drawing::Drawing;
 pub use errors::{MOST_LINES, ScriptError, SourceFault};

@@ -1,66 +1,22 @@
 //! What is seen along a script of `lockmon queue`.
-ghost use Rattle.std.specs.Prelude.{◌≡◌, ◌≤◌, ℕ, [], Some, Ok, IsTrue, IfOk, IfErr, IfSome, length, map, is_some, true, false};
+ghost use Rattle.std.specs.Prelude.{◌≡◌, ◌≤◌, [], Some, IfOk, IfErr, IfSome, length, map, is_some};
 ghost use Rattle.std.specs.List.{All};
 ghost use Rattle.std.specs.Str.Lines.{lines};
-ghost use Rattle.queue_script.specs.WellFormed.{is_well_formed};
-ghost use Rattle.queue_script.specs.Borrowed.{owned_command};
-ghost use Rattle.queue_script.specs.QueueScripts.{effect_of, call_effect, unless_busy};
 ghost use Rattle.script_io.specs.declared.endings.Ending.TheVariants as ending;
-ghost use Rattle.script_io.specs.declared.endings.SourceFault.{SourceFault};
-ghost use Rattle.lock_queue.specs.WellFormed.{is_call};
 ghost use Rattle.lock_bars.specs.Arrows.{HasLock, wait_of, waits_in};
 ghost use Rattle.lock_bars.specs.Courses.{course_of, has_line, line_columns, requests_after, IsFaultOf};
 ghost use Rattle.wait_graph.specs.Graphs.{Shows};
 ghost use Rattle.lock_bars.specs.declared.errors.TheConstants.{MOST_LINES};
 
 use crate::columns::Column;
+use crate::commands::do_command;
 use crate::course::Course;
 use crate::errors::{MOST_LINES, ScriptError};
 use crate::script_lines::ScriptLines;
-use lock_queue::{LockCall, LockTable};
-use queue_script::{CallRoom, Command, read_command};
+use lock_queue::LockTable;
+use queue_script::{CallRoom, read_command};
 use script_io::Ending;
 use std::alloc::Global;
-
-/// Makes a job's call, unless the job waits.
-fn call_unless_busy<L: LockTable>(table: &mut L, job: u8, call: &LockCall)
-    requires { IsTrue (is_call job call.now) }
-    ensures { L.requests table.new
-        ≡ (unless_busy (L.requests table.old) job (call_effect L.REQS (L.requests table.old) job (Ok call.now))).requests }
-{
-    if !table.is_waiting(job) {
-        let _ = table.call(job, call);
-    }
-}
-
-/// Does what the line of this number asks for. The answer is an ending where the script ends there.
-fn follow<L: LockTable>(
-    table: &mut L,
-    number: usize,
-    command: Option<Command<'_>>,
-) -> Option<Ending>
-    requires { IsTrue (is_well_formed (owned_command command)) }
-    ensures requests { (n : ℕ) → L.requests table.new
-        ≡ (effect_of L.REQS n (L.requests table.old) (owned_command command.entry)).requests }
-    ensures ending { result ≡ (effect_of L.REQS number (L.requests table.old) (owned_command command.entry)).ending }
-    ensures ended { IfSome result (λ _. L.requests table.new ≡ L.requests table.old) }
-    ensures no_source { (fault : SourceFault) → result ≡ Some (ending.Source fault) → false ≡ true }
-{
-    let Some(command) = command else {
-        return Some(Ending::Script(number as u128));
-    };
-    match command {
-        Command::Quit => return Some(Ending::Done),
-        Command::Call(job, call) => call_unless_busy(table, job, call),
-        Command::Free(job) => table.release(job),
-        Command::Nothing
-        | Command::Refused(_, _)
-        | Command::Status(_, _)
-        | Command::Show
-        | Command::Waits => {}
-    }
-    None
-}
 
 /// Does each line of a script on the table, and gathers the columns, the bars, and who waits for whom
 /// after the line `at`, where that is asked for.
@@ -96,7 +52,7 @@ pub fn watch_queue<L: LockTable>(
         }
         let number = seen.lines + 1;
         let command = read_command(&mut room, line);
-        match follow(table, number, command) {
+        match do_command(table, number, command) {
             Some(Ending::Done) => return Ok(seen),
             Some(Ending::Script(_) | Ending::Source(_)) => {
                 return Err(ScriptError::Line(number));

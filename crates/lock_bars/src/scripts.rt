@@ -1,5 +1,5 @@
 //! The pictures of scripts.
-ghost use Rattle.std.specs.Prelude.{◌≡◌, ◌⊎◌, None, IfOk, IfErr, IfSome, IsSome, length, map, unwrap_or, true};
+ghost use Rattle.std.specs.Prelude.{◌≡◌, ◌⊎◌, None, Err, IfOk, IfErr, IfSome, IsSome, length, map, unwrap_or, true};
 ghost use Rattle.std.specs.List.{All};
 ghost use Rattle.std.specs.Str.Lines.{lines};
 ghost use Rattle.queue_script.specs.QueueScripts.{transcript};
@@ -41,6 +41,7 @@ pub fn drawing_of<L: LockTable>(
     ensures found { IfOk result (λ drawing. IsSome at → IsSome seen.waits) }
     ensures short { IfErr result (λ e. (e ≡ ScriptError.Memory)
         ⊎ ((e ≡ ScriptError.Short seen.lines) × IsSome at × (seen.waits ≡ None))) }
+    ensures missed { IsSome at → seen.waits ≡ None → result ≡ Err (ScriptError.Short seen.lines) }
 {
     let Course {
         lines,

@@ -14,8 +14,8 @@ use Rattle.lock_bars.proofs.CourseLemmas.{behind_next, behind_now, columns_next,
 use Rattle.wait_graph.specs.declared.graph.Graph.{Graph}
 use Rattle.lock_bars.proofs.queue_course.watch_queue.Goals as goal
 
-pub follow-requires : goal.follow-requires
-follow-requires g c = subst (λ a. is_well_formed a ≡ true) (sym c.read_command-command.ensures) (line-right c.in-Some.line.now)
+pub do_command-requires : goal.do_command-requires
+do_command-requires g c = subst (λ a. is_well_formed a ≡ true) (sym c.read_command-command.ensures) (line-right c.in-Some.line.now)
 
 pub returns-then-seen-ge-MOST_LINES-clause-fault : goal.returns-then-seen-ge-MOST_LINES-clause-fault
 returns-then-seen-ge-MOST_LINES-clause-fault g c =
@@ -43,7 +43,7 @@ pub loop-line-preserved : goal.loop-line-preserved
 loop-line-preserved g c =
     let size = g.L.LockTable.REQS in
     let requests = g.L.LockTable.requests c.loop-line.table in
-    let next = g.L.LockTable.requests c.follow.new.table in
+    let next = g.L.LockTable.requests c.do_command.new.table in
     let n = c.loop-line.seen.lines in
     let all = lines c.args.script.now in
     let line = c.in-Some.line.now in
@@ -53,7 +53,7 @@ loop-line-preserved g c =
     let counted : c.end_line.new.self.lines ≡ n + 1 = search rules in
     let wide : length c.look.new.self.columns.items ≡ n + 1 = grind (arith, common_steps, looked.columns, known.columns) in
     let is : next ≡ (effect_of size (n + 1) requests (command_of line)).requests =
-    c.follow.ensures.requests (n + 1) ∙ ap (λ a. (effect_of size (n + 1) requests a).requests) c.read_command-command.ensures in
+    c.do_command.ensures.requests (n + 1) ∙ ap (λ a. (effect_of size (n + 1) requests a).requests) c.read_command-command.ensures in
     let goes_on : None ≡ (effect_of size (n + 1) requests (command_of line)).ending = search rules in
     let behind = behind_next size requests next n c.end_line.new.self.lines c.loop-line.lines c.next.new.self all line c.in-Some.ensures is counted known.behind in
     let behind_this : next ≡ requests_after size (n + 1) [] 0 all =
