@@ -20,6 +20,9 @@ look() { # NAME: whether the picture is well-formed
     python3 -c 'import sys, xml.dom.minidom as dom; dom.parse(sys.argv[1])' "$folder/$1.svg"
     if command -v rsvg-convert >/dev/null; then rsvg-convert "$folder/$1.svg" -o "$folder/$1.png"; fi
 }
+count() { # PATTERN: how many lines of the long picture begin so
+    grep -c "^$1" "$folder/long_run.svg"
+}
 for script in examples/*.queue tests/locks/*.queue; do
     draw "$(basename "$script" .queue)" <"$script"
 done
@@ -34,6 +37,11 @@ cmp "$folder/giver_and_waiter.svg" examples/giver_and_waiter.svg
 "$ten" --picture "$folder/long_run.svg" examples/counter.mac examples/counter.mac 2>/dev/null
 look long_run
 grep -q "after tick 2[0-9][0-9][0-9]<" "$folder/long_run.svg"
+# each of its two jobs has the lock once in each of its turns, and each wait ends in a grant
+turns=$(sed -n 's/^TURNS:.*,^D\([0-9]*\) .*/\1/p' examples/counter.mac)
+[ "$(count '<rect class="owns" x="[0-9]*" y=')" = $((2 * turns)) ]
+[ "$(count '<rect class="waits" x="[0-9]*" y=')" -gt 0 ]
+[ "$(count '<path class="grant" .*z"/>$')" = "$(count '<rect class="waits" x="[0-9]*" y=')" ]
 status=0
 "$ten" --picture "$folder/none/run.svg" examples/giver.mac examples/waiter.mac 2>"$folder/told" || status=$?
 [ "$status" = 3 ]

@@ -1,4 +1,6 @@
 //! What the columns of a picture stand for.
+ghost use Rattle.std.specs.Prelude.{◌≡◌};
+ghost use Rattle.lock_svg.specs.Words.{unit_text};
 
 /// What the columns of a picture stand for.
 #[derive(Clone, Copy, Debug, PartialEq, Eq)]
@@ -11,7 +13,9 @@ pub enum Along {
 
 impl Along {
     /// The word for one column.
-    pub fn unit(self) -> &'static str {
+    pub fn unit(self) -> &'static str
+        ensures { result.now ≡ unit_text self }
+    {
         match self {
             Along::Script => "line",
             Along::Run => "tick",

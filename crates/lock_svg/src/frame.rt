@@ -1,6 +1,7 @@
 //! The measures of a picture, in pixels.
 
-ghost use Rattle.std.specs.Prelude.{◌<◌};
+ghost use Rattle.std.specs.Prelude.{◌≡◌, ◌<◌};
+ghost use Rattle.lock_svg.specs.Shapes.{x_of};
 
 use lock_bars::{Drawing, Lane};
 
@@ -12,6 +13,9 @@ pub const BAR: usize = 14;
 
 /// The height of the room above the lanes.
 pub const TOP: usize = 70;
+
+/// Where the grounds of the columns begin, above the numbers.
+pub const LINE_TOP: usize = TOP - 24;
 
 /// The gap between the lanes of two jobs.
 pub const GAP: usize = 8;
@@ -122,7 +126,9 @@ impl Frame {
     }
 
     /// Where a column begins; columns are counted from 1.
-    pub fn x_of(&self, column: usize) -> usize {
+    pub fn x_of(&self, column: usize) -> usize
+        ensures { result ≡ x_of self.now column }
+    {
         let before = column.saturating_sub(1).saturating_mul(self.column);
         self.left.saturating_add(before)
     }

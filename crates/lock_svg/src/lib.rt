@@ -2,6 +2,8 @@
 #![tactic(auto)]
 
 mod along;
+mod area;
+mod bar_text;
 mod frame;
 mod run_course;
 mod svg;

@@ -1,10 +1,17 @@
 //! The picture as SVG.
+ghost use Rattle.std.specs.Prelude.{◌≡◌};
+ghost use Rattle.std.specs.Fmt.{WritesOnOk};
+ghost use Rattle.lock_svg.specs.Shapes.{amount_label, area_of, bar_box, bar_shape, bar_shapes, grant_sign, grant_signs};
+ghost use Rattle.lock_svg.specs.Shapes.{shape_in, sign_at, sign_in};
+ghost use Rattle.lock_svg.specs.Words.{bar_text, class_of};
 
 use crate::along::Along;
+use crate::area::Area;
+use crate::bar_text::BarText;
 use crate::frame::{BAR, Frame, GAP, LANE, MARGIN, TOP};
 use crate::svg_graph::{jobs_in, write_graph};
 use crate::svg_lines::write_lines;
-use lock_bars::{Bar, Column, Drawing, Lane};
+use lock_bars::{Bar, Column, Drawing, Hold, Lane};
 use std::fmt;
 
 /// The room that a number takes above its column.
@@ -156,51 +163,10 @@ fn write_axis<W: fmt::Write>(
     write_numbers(f, frame, columns)
 }
 
-/// The column of this number, counted from 1.
-fn column_at(columns: &[Column], number: usize) -> Option<Column> {
-    columns.get(number.saturating_sub(1)).copied()
-}
-
-/// The last line or tick of a bar. A tick of a run that has no column leaves the locks as they were, so a
-/// bar lasts until the tick before that of the next column.
-fn last_of(picture: &AsSvg<'_>, bar: &Bar) -> Option<Column> {
-    let columns = picture.drawing.columns.as_slice();
-    match (picture.along, column_at(columns, bar.until)) {
-        (Along::Script, _) => column_at(columns, bar.until.saturating_sub(1)),
-        (Along::Run, Some(next)) => Some(Column::of_line(next.line.saturating_sub(1))),
-        (Along::Run, None) => columns.last().copied(),
-    }
-}
-
-/// Writes the text of a bar that a pointer shows.
-fn write_title<W: fmt::Write>(
-    f: &mut fmt::Formatter<W>,
-    picture: &AsSvg<'_>,
-    bar: &Bar,
-    label: &str,
-) -> fmt::Result {
-    let job = bar.hold.job;
-    let columns = picture.drawing.columns.as_slice();
-    let from = column_at(columns, bar.from).unwrap_or(Column::of_line(bar.from));
-    let last = last_of(picture, bar).unwrap_or(from);
-    let unit = picture.along.unit();
-    let does = if bar.hold.owns { "owns" } else { "waits for" };
-    write!(f, "<title>job {job} {does} {label}")?;
-    if bar.hold.shared {
-        f.write_str(", shared")?;
-    }
-    let group = bar.hold.group.number();
-    if group > 0 {
-        write!(f, " in group {group}")?;
-    }
-    if bar.hold.amount > 0 {
-        let amount = bar.hold.amount;
-        write!(f, ", {amount} of a pool")?;
-    }
-    write!(f, ", {unit}s {from} to {last}</title>")
-}
-
-fn class_of(bar: &Bar) -> &'static str {
+/// The class of a bar, which gives its colour.
+fn class_of(bar: &Bar) -> &'static str
+    ensures { result.now ≡ class_of bar.now.hold }
+{
     if !bar.hold.owns {
         "waits"
     } else if bar.hold.shared {
@@ -210,39 +176,78 @@ fn class_of(bar: &Bar) -> &'static str {
     }
 }
 
-/// Writes a bar into the lane that begins at `height`.
+/// Where a bar is drawn in the lane that begins at `height`.
+fn area_of(frame: &Frame, bar: &Bar, height: usize) -> Area
+    ensures { result ≡ area_of frame.now bar.now height }
+{
+    let x = frame.x_of(bar.from);
+    Area {
+        x,
+        y: height.saturating_add((LANE - BAR) / 2),
+        width: frame.x_of(bar.until).saturating_sub(x),
+        height: BAR,
+    }
+}
+
+/// Writes a bar of a class, with what is said of it.
+fn write_box<W: fmt::Write>(
+    f: &mut fmt::Formatter<W>,
+    class: &str,
+    area: Area,
+    text: BarText<'_>,
+) -> fmt::Result
+    ensures { WritesOnOk W.write_str_gives f.old result (bar_box class.now area
+        (bar_text text.entry.hold.now text.entry.label.now text.entry.unit.now text.entry.from text.entry.last)) f.new }
+{
+    write!(
+        f,
+        "<rect class=\"{class}\" {area} rx=\"2\"><title>{text}</title></rect>\n"
+    )
+}
+
+/// Writes how much of a pool a holding has, in the middle of its bar, where there is room.
+fn write_amount<W: fmt::Write>(f: &mut fmt::Formatter<W>, hold: &Hold, area: Area) -> fmt::Result
+    ensures { WritesOnOk W.write_str_gives f.old result (amount_label hold.now area) f.new }
+{
+    let amount = hold.amount;
+    if amount == 0 || area.width < 20 {
+        return Ok(());
+    }
+    let x = area.x.saturating_add(area.width / 2);
+    let y = area.y.saturating_add(11);
+    let class = if hold.owns { "amount" } else { "amount asked" };
+    write!(
+        f,
+        "<text class=\"{class}\" x=\"{x}\" y=\"{y}\">{amount}</text>\n"
+    )
+}
+
+/// Writes a bar, whose lock has this label, into the lane that begins at `height`.
 fn write_bar<W: fmt::Write>(
     f: &mut fmt::Formatter<W>,
     frame: &Frame,
-    picture: &AsSvg<'_>,
+    along: Along,
+    columns: &[Column],
     bar: &Bar,
     label: &str,
     height: usize,
-) -> fmt::Result {
-    let x = frame.x_of(bar.from);
-    let width = frame.x_of(bar.until).saturating_sub(x);
-    let y = height.saturating_add(LANE.saturating_sub(BAR) / 2);
-    let class = class_of(bar);
+) -> fmt::Result
+    ensures { WritesOnOk W.write_str_gives f.old result (bar_shape frame.now along columns.now bar.now label.now height) f.new }
+{
+    let area = area_of(frame, bar, height);
+    let text = BarText::of(along, columns, bar, label);
+    write_box(f, class_of(bar), area, text)?;
+    write_amount(f, &bar.hold, area)
+}
+
+/// Writes the sign of a grant at a place.
+fn write_sign<W: fmt::Write>(f: &mut fmt::Formatter<W>, x: usize, y: usize) -> fmt::Result
+    ensures { WritesOnOk W.write_str_gives f.old result (sign_at x y) f.new }
+{
     write!(
         f,
-        "<rect class=\"{class}\" x=\"{x}\" y=\"{y}\" width=\"{width}\" height=\"{BAR}\" rx=\"2\">"
-    )?;
-    write_title(f, picture, bar, label)?;
-    f.write_str("</rect>\n")?;
-    let amount = bar.hold.amount;
-    if amount > 0 && width >= 20 {
-        let (x, y) = (x.saturating_add(width / 2), y.saturating_add(11));
-        let class = if bar.hold.owns {
-            "amount"
-        } else {
-            "amount asked"
-        };
-        write!(
-            f,
-            "<text class=\"{class}\" x=\"{x}\" y=\"{y}\">{amount}</text>\n"
-        )?;
-    }
-    Ok(())
+        "<path class=\"grant\" transform=\"translate({x} {y})\" d=\"M0 -7L6 0L0 7L-6 0z\"/>\n"
+    )
 }
 
 /// Writes the sign of a grant at the beginning of a column.
@@ -251,33 +256,81 @@ fn write_grant<W: fmt::Write>(
     frame: &Frame,
     column: usize,
     height: usize,
-) -> fmt::Result {
+) -> fmt::Result
+    ensures { WritesOnOk W.write_str_gives f.old result (grant_sign frame.now column height) f.new }
+{
     let x = frame.x_of(column);
     let y = height.saturating_add(LANE / 2);
-    write!(
-        f,
-        "<path class=\"grant\" transform=\"translate({x} {y})\" d=\"M0 -7L6 0L0 7L-6 0z\"/>\n"
-    )
+    write_sign(f, x, y)
 }
 
-/// Writes the bars of a lane, and then the signs on them.
+/// Writes a bar where it is of a lane.
+fn write_bar_in<W: fmt::Write>(
+    f: &mut fmt::Formatter<W>,
+    frame: &Frame,
+    along: Along,
+    columns: &[Column],
+    lane: &Lane,
+    height: usize,
+    bar: &Bar,
+) -> fmt::Result
+    ensures { WritesOnOk W.write_str_gives f.old result (shape_in frame.now along columns.now lane.now height bar.now) f.new }
+{
+    if lane.has(bar) {
+        write_bar(f, frame, along, columns, bar, lane.label.as_str(), height)
+    } else {
+        Ok(())
+    }
+}
+
+/// Writes the bars of a lane.
 fn write_bars<W: fmt::Write>(
     f: &mut fmt::Formatter<W>,
     frame: &Frame,
-    picture: &AsSvg<'_>,
+    along: Along,
+    columns: &[Column],
+    bars: &[Bar],
     lane: &Lane,
     height: usize,
-) -> fmt::Result {
-    let bars = picture.drawing.bars.as_slice();
+) -> fmt::Result
+    ensures { WritesOnOk W.write_str_gives f.old result (bar_shapes frame.now along columns.now bars.now lane.now height) f.new }
+{
     for bar in bars {
-        if lane.has(bar) {
-            write_bar(f, frame, picture, bar, lane.label.as_str(), height)?;
-        }
+        write_bar_in(f, frame, along, columns, lane, height, bar)?;
     }
+    Ok(())
+}
+
+/// Writes the sign of a bar where it is of a lane and begins with a grant.
+fn write_grant_in<W: fmt::Write>(
+    f: &mut fmt::Formatter<W>,
+    frame: &Frame,
+    bars: &[Bar],
+    lane: &Lane,
+    height: usize,
+    bar: &Bar,
+) -> fmt::Result
+    ensures { WritesOnOk W.write_str_gives f.old result (sign_in frame.now bars.now lane.now height bar.now) f.new }
+{
+    if lane.has(bar) && bar.is_granted(bars) {
+        write_grant(f, frame, bar.from, height)
+    } else {
+        Ok(())
+    }
+}
+
+/// Writes the signs on the bars of a lane.
+fn write_grants<W: fmt::Write>(
+    f: &mut fmt::Formatter<W>,
+    frame: &Frame,
+    bars: &[Bar],
+    lane: &Lane,
+    height: usize,
+) -> fmt::Result
+    ensures { WritesOnOk W.write_str_gives f.old result (grant_signs frame.now bars.now lane.now height) f.new }
+{
     for bar in bars {
-        if lane.has(bar) && bar.is_granted(bars) {
-            write_grant(f, frame, bar.from, height)?;
-        }
+        write_grant_in(f, frame, bars, lane, height, bar)?;
     }
     Ok(())
 }
@@ -290,13 +343,14 @@ fn write_names<W: fmt::Write>(
     is_first: bool,
     height: usize,
 ) -> fmt::Result {
-    let width = frame.column.saturating_mul(frame.columns);
     let left = frame.left;
-    let (ground, floor) = (height.saturating_add(1), LANE.saturating_sub(2));
-    write!(
-        f,
-        "<rect class=\"row\" x=\"{left}\" y=\"{ground}\" width=\"{width}\" height=\"{floor}\"/>\n"
-    )?;
+    let ground = Area {
+        x: left,
+        y: height.saturating_add(1),
+        width: frame.column.saturating_mul(frame.columns),
+        height: LANE - 2,
+    };
+    write!(f, "<rect class=\"row\" {ground}/>\n")?;
     let y = height.saturating_add(15);
     if is_first {
         let job = lane.job;
@@ -318,6 +372,8 @@ fn write_lanes<W: fmt::Write>(
     frame: &Frame,
     picture: &AsSvg<'_>,
 ) -> fmt::Result {
+    let columns = picture.drawing.columns.as_slice();
+    let bars = picture.drawing.bars.as_slice();
     let mut height = TOP;
     let mut last = 0;
     for lane in picture.drawing.lanes.as_slice() {
@@ -327,7 +383,8 @@ fn write_lanes<W: fmt::Write>(
         }
         last = lane.job;
         write_names(f, frame, lane, is_first, height)?;
-        write_bars(f, frame, picture, lane, height)?;
+        write_bars(f, frame, picture.along, columns, bars, lane, height)?;
+        write_grants(f, frame, bars, lane, height)?;
         height = height.saturating_add(LANE);
     }
     Ok(())

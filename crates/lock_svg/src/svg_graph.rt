@@ -1,10 +1,12 @@
 //! The graph of waits in a picture.
+ghost use Rattle.std.specs.Prelude.{◌≡◌};
+ghost use Rattle.lock_svg.specs.Words.{arrow_class};
 
 use crate::along::Along;
 use crate::frame::{Frame, TOP, radius_of};
 use lock_bars::{Arrow, Drawing, LockLabel};
 use std::fmt;
-use wait_graph::{Graph, NUMBERS};
+use wait_graph::{Graph, NUMBERS, Wait};
 
 /// How many parts the radius of a circle has.
 const RADIUS: usize = 1000;
@@ -92,6 +94,18 @@ fn middle_of(from: usize, bent_to: usize, to: usize) -> usize {
     ends.saturating_add(bent_to.saturating_mul(2)) / 4
 }
 
+/// The class of an arrow, which gives its line and its colour.
+fn arrow_class(wait: Wait) -> &'static str
+    ensures { result.now ≡ arrow_class wait }
+{
+    match (wait.is_hard, wait.is_in_circle) {
+        (true, true) => "wait hard circle",
+        (true, false) => "wait hard",
+        (false, true) => "wait soft circle",
+        (false, false) => "wait soft",
+    }
+}
+
 /// Writes the arrow of a wait. It is bent to one side, so that two waits in opposite directions are apart. The name of
 /// the lock stands on it.
 fn write_wait<W: fmt::Write>(
@@ -105,15 +119,15 @@ fn write_wait<W: fmt::Write>(
     let Point { x: x2, y: y2 } = point_of(graph, frame, wait.other);
     let x = bent(x1, x2, y1, y2);
     let y = bent(y1, y2, x2, x1);
-    let kind = if wait.is_hard { "hard" } else { "soft" };
-    let (circle, head) = if wait.is_in_circle {
-        (" circle", "head-circle")
+    let class = arrow_class(wait);
+    let head = if wait.is_in_circle {
+        "head-circle"
     } else {
-        ("", "head")
+        "head"
     };
     write!(
         f,
-        "<path class=\"wait {kind}{circle}\" d=\"M{x1} {y1}Q{x} {y} {x2} {y2}\" marker-end=\"url(#{head})\">"
+        "<path class=\"{class}\" d=\"M{x1} {y1}Q{x} {y} {x2} {y2}\" marker-end=\"url(#{head})\">"
     )?;
     let Some(key) = &arrow.lock else {
         return write!(f, "<title>{wait}</title></path>\n");

@@ -1,38 +1,93 @@
 //! The lines of a script that a pointer shows.
+ghost use Rattle.std.specs.Prelude.{◌≡◌, Some};
+ghost use Rattle.std.specs.Fmt.{WritesOnOk};
+ghost use Rattle.lock_svg.specs.Shapes.{ground_of, line_ground, line_text};
+ghost use Rattle.lock_svg.specs.Xml.{xml_byte, xml_text};
 
-use crate::frame::{Frame, TOP};
+use crate::area::Area;
+use crate::frame::{Frame, LINE_TOP};
 use lock_bars::{Column, ScriptLines};
 use std::fmt;
 
-/// Writes a byte of a line as XML has it; a blank in place of what is no printing character.
-fn write_byte<W: fmt::Write>(f: &mut fmt::Formatter<W>, byte: u8) -> fmt::Result {
-    match byte {
-        b'<' => f.write_str("&lt;"),
-        b'>' => f.write_str("&gt;"),
-        b'&' => f.write_str("&amp;"),
-        b' '..=b'~' => f.write_char(char::from(byte)),
-        _ => f.write_str(" "),
+/// A byte of a line as XML has it; a blank in place of what is no printing character.
+#[derive(Clone, Copy)]
+struct XmlByte(u8);
+
+impl fmt::Display for XmlByte {
+    ghost output = { λ b. Some (xml_byte b.0) };
+
+    fn fmt<W: fmt::Write>(&self, f: &mut fmt::Formatter<W>) -> fmt::Result {
+        let byte = self.0;
+        match byte {
+            b'<' => f.write_str("&lt;"),
+            b'>' => f.write_str("&gt;"),
+            b'&' => f.write_str("&amp;"),
+            b' '..=b'~' => f.write_char(char::from(byte)),
+            _ => f.write_str(" "),
+        }
     }
 }
 
-/// Writes a ground behind a column, which shows the column's line.
+/// A line as XML has it.
+#[derive(Clone, Copy)]
+struct XmlText<'a>(&'a [u8]);
+
+impl fmt::Display for XmlText<'_> {
+    ghost output = { λ t. Some (xml_text t.0.now) };
+
+    #[tactic(auto, unfolding(crate::specs::Xml::xml_text))]
+    fn fmt<W: fmt::Write>(&self, f: &mut fmt::Formatter<W>) -> fmt::Result {
+        for byte in self.0 {
+            let byte = XmlByte(*byte);
+            write!(f, "{byte}")?;
+        }
+        Ok(())
+    }
+}
+
+/// What is said of a column: its line of the script.
+#[derive(Clone, Copy)]
+struct LineText<'a> {
+    column: Column,
+    line: &'a [u8],
+}
+
+impl fmt::Display for LineText<'_> {
+    ghost output = { λ l. Some (line_text l.column l.line.now) };
+
+    #[tactic(auto, unfolding(crate::specs::Shapes::line_text))]
+    fn fmt<W: fmt::Write>(&self, f: &mut fmt::Formatter<W>) -> fmt::Result {
+        let (column, text) = (self.column, XmlText(self.line));
+        write!(f, "line {column}: {text}")
+    }
+}
+
+/// Where the ground of a column that begins at an edge is drawn.
+fn ground_of(frame: &Frame, edge: usize) -> Area
+    ensures { result ≡ ground_of frame.now edge }
+{
+    Area {
+        x: edge,
+        y: LINE_TOP,
+        width: frame.column,
+        height: frame.lanes_end.saturating_sub(LINE_TOP),
+    }
+}
+
+/// Writes the ground of a column, which shows a line of the script.
 fn write_line<W: fmt::Write>(
     f: &mut fmt::Formatter<W>,
-    frame: &Frame,
-    edge: usize,
+    area: Area,
     column: Column,
     line: &[u8],
-) -> fmt::Result {
-    let (width, top) = (frame.column, TOP.saturating_sub(24));
-    let height = frame.lanes_end.saturating_sub(top);
+) -> fmt::Result
+    ensures { WritesOnOk W.write_str_gives f.old result (line_ground area column line.now) f.new }
+{
+    let text = LineText { column, line };
     write!(
         f,
-        "<rect class=\"line\" x=\"{edge}\" y=\"{top}\" width=\"{width}\" height=\"{height}\"><title>line {column}: "
-    )?;
-    for byte in line {
-        write_byte(f, *byte)?;
-    }
-    f.write_str("</title></rect>\n")
+        "<rect class=\"line\" {area}><title>{text}</title></rect>\n"
+    )
 }
 
 /// Writes a ground behind each column, which shows the line of the script where a pointer rests on it. Nothing where
@@ -55,7 +110,7 @@ pub fn write_lines<W: fmt::Write>(
             line = lines.next().unwrap_or(b"");
         }
         number = column.line;
-        write_line(f, frame, frame.x_of(i + 1), column, line)?;
+        write_line(f, ground_of(frame, frame.x_of(i + 1)), column, line)?;
     }
     Ok(())
 }

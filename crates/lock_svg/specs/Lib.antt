@@ -1,0 +1,3 @@
+pub mod Xml
+pub mod Words
+pub mod Shapes
