@@ -10,7 +10,7 @@ use lock_queue::steps::names_key;
 use lock_queue::{Key, Request, Want};
 
 /// What each want of a call is checked for.
-#[derive(Clone, Copy, Debug, PartialEq, Eq)]
+#[derive(Clone, Copy)]
 pub enum Check {
     /// What one in the queue, or before it, has against a want that is asked for.
     Request,

@@ -8,7 +8,7 @@ use lock_queue::steps::{is_alike, is_pooled};
 use lock_queue::{Request, RequestId, Want};
 
 /// How a want that is asked for meets another one.
-#[derive(Clone, Copy, Debug, PartialEq, Eq, Drop)]
+#[derive(Clone, Copy, Drop)]
 pub enum Rule {
     /// The other is of the same key, and has another level, or another size of its pool (code 9).
     Differs,

@@ -6,14 +6,14 @@ ghost use Rattle.lock_queue.specs.Changes.{changed, with_changes};
 ghost use Rattle.lock_queue.specs.Dequeues.{has_id, is_of_job};
 ghost use Rattle.lock_queue.specs.Queue.{granted_behind, requests_of};
 ghost use Rattle.lock_reasons.specs.Reasons.{enqueue_reason, lost_behind, modify_reason, reason_if, reason_of};
-ghost use Rattle.lock_reasons.specs.Reasons.{refusal_by, refusal_in, refusal_of};
+ghost use Rattle.lock_reasons.specs.Reasons.{refusal_in, refusal_of};
 ghost use Rattle.lock_reasons.specs.declared.reasons.Reason.TheVariants.{NoRequest, NoRequestOf};
 
 use crate::faults::{Check, first_fault};
 use crate::meetings::{Present, Rule};
 use crate::ways::first_unfit;
 use lock_queue::steps::{changed_wants, is_granted, write_like};
-use lock_queue::{Asking, EnqueueKind, LockCall, Refusal, Request, RequestId, Want};
+use lock_queue::{Asking, EnqueueKind, LockCall, Request, RequestId, Want};
 use std::alloc::{AllocError, Global};
 
 /// The want that a want at fault meets.
@@ -46,39 +46,6 @@ pub enum Reason {
     NotGranted(Want),
     /// The request of this job and this number would lose its grant (code 13).
     WouldLose(u8, RequestId),
-}
-
-impl Rule {
-    /// How a call is refused where one of its wants meets another one so.
-    fn refusal(self) -> Refusal
-        ensures { result ≡ refusal_by self }
-    {
-        match self {
-            Rule::Differs => Refusal::Differs,
-            Rule::Names => Refusal::NamedAlready,
-            Rule::Reaches => Refusal::LevelOrder,
-            Rule::Pools => Refusal::BadPool,
-        }
-    }
-}
-
-impl Reason {
-    /// The refusal that it is the reason of.
-    pub fn refusal(&self) -> Refusal
-        ensures { result ≡ refusal_in self.now }
-    {
-        match self {
-            Reason::Meets(rule, _, _) => rule.refusal(),
-            Reason::NotPresent(_) | Reason::NoRequest | Reason::NoRequestOf(_) => {
-                Refusal::NotPresent
-            }
-            Reason::NoVector => Refusal::NoVector,
-            Reason::OverQuota(_) => Refusal::OverQuota,
-            Reason::QueueFull(_) => Refusal::QueueFull,
-            Reason::NotGranted(_) => Refusal::NotGranted,
-            Reason::WouldLose(_, _) => Refusal::WouldLose,
-        }
-    }
 }
 
 /// How many requests a job has.
@@ -193,26 +160,14 @@ fn modify_reason(
     Ok(first_lost(requests, after.as_slice()))
 }
 
-/// Whether a job has a request.
-fn has_request(requests: &[Request], job: u8) -> bool
-    ensures { result ≡ list_any (is_of_job job) requests.now }
-{
-    requests.iter().any(|r| r.job == job)
-}
-
-/// Whether a job has a request of this number.
-fn has_request_of(requests: &[Request], job: u8, id: RequestId) -> bool
-    ensures { result ≡ list_any (has_id job id) requests.now }
-{
-    requests.iter().any(|r| r.job == job && r.id == id)
-}
-
 /// Why a job has nothing to give up at once.
 fn all_reason(requests: &[Request], job: u8) -> Option<Reason>
     ensures { result ≡ reason_if (not (list_any (is_of_job job) requests.now)) NoRequest }
 {
-    if has_request(requests, job) {
-        return None;
+    for r in requests {
+        if r.job == job {
+            return None;
+        }
     }
     Some(Reason::NoRequest)
 }
@@ -221,8 +176,10 @@ fn all_reason(requests: &[Request], job: u8) -> Option<Reason>
 fn id_reason(requests: &[Request], job: u8, id: RequestId) -> Option<Reason>
     ensures { result ≡ reason_if (not (list_any (has_id job id) requests.now)) (NoRequestOf id) }
 {
-    if has_request_of(requests, job, id) {
-        return None;
+    for r in requests {
+        if r.job == job && r.id == id {
+            return None;
+        }
     }
     Some(Reason::NoRequestOf(id))
 }
