@@ -1,5 +1,6 @@
 //! Numbers in octal and in decimal.
-ghost use Rattle.std.specs.Prelude.{◌<◌, ◌^◌, IfSome};
+ghost use Rattle.std.specs.Prelude.{◌≡◌, ◌<◌, ◌^◌, IfSome};
+ghost use Rattle.ddt_commands.specs.Numbers.{as_times, as_word, decimal_in, if_short, number_in, number_of};
 
 use word36::Word;
 
@@ -16,7 +17,10 @@ pub const LEAST_RADIX: u64 = 2;
 pub const MOST_RADIX: u64 = 16;
 
 /// The word of some octal digits, of which the last twelve count; `None` where there is no digit, or another character.
-pub fn octal(text: &[u8]) -> Option<Word> {
+#[tactic(auto, using(crate::proofs::NumberLemmas::number_low))]
+pub fn octal(text: &[u8]) -> Option<Word>
+    ensures { result ≡ as_word (number_of 8 text.now) }
+{
     if text.is_empty() {
         return None;
     }
@@ -32,8 +36,10 @@ pub fn octal(text: &[u8]) -> Option<Word> {
 }
 
 /// The number of some decimal digits; `None` where there is no digit, or another character, or the number is 2^40 or more.
+#[tactic(auto, using(crate::proofs::NumberLemmas::number_short))]
 pub fn decimal(text: &[u8]) -> Option<u64>
-    ensures { IfSome result (λ n. n < 2 ^ 40) }
+    ensures value { result ≡ if_short (number_of 10 text.now) }
+    ensures below { IfSome result (λ n. n < 2 ^ 40) }
 {
     if text.is_empty() {
         return None;
@@ -51,7 +57,8 @@ pub fn decimal(text: &[u8]) -> Option<u64>
 
 /// The number of some decimal digits, with or without a point behind them, as `decimal` reads them.
 pub fn pointed_decimal(text: &[u8]) -> Option<u64>
-    ensures { IfSome result (λ n. n < 2 ^ 40) }
+    ensures value { result ≡ decimal_in text.now }
+    ensures below { IfSome result (λ n. n < 2 ^ 40) }
 {
     match text {
         [digits @ .., b'.'] => decimal(digits),
@@ -60,7 +67,9 @@ pub fn pointed_decimal(text: &[u8]) -> Option<u64>
 }
 
 /// How many times, from 1 to `MOST_TIMES`: octal digits, or decimal ones with a point behind them.
-pub fn times(text: &[u8]) -> Option<u32> {
+pub fn times(text: &[u8]) -> Option<u32>
+    ensures { result ≡ as_times (number_in text.now) }
+{
     let times = match text {
         [digits @ .., b'.'] => decimal(digits)?,
         digits => octal(digits)?.number(),
