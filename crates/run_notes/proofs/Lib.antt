@@ -1,2 +1,3 @@
+mod CircleLemmas
 mod FollowLemmas
 mod WordLemmas

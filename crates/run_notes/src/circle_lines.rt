@@ -1,9 +1,9 @@
 //! Circles of waits, in words.
-ghost use Rattle.std.specs.Prelude.{◌≡◌, ◌<◌, ◌≤◌, ◌++◌, ℕ, List, None, Some, false, length, nat_lt, IfOk, IfSome, OnOk};
+ghost use Rattle.std.specs.Prelude.{◌≡◌, ◌<◌, ◌≤◌, ◌++◌, ℕ, List, None, Some, false, true, length, nat_lt, IfOk, IfSome, OnOk};
 ghost use Rattle.std.specs.Prelude.{slice_get, slice_index_or, string_bytes};
 ghost use Rattle.std.specs.List.{IsFirstBest, list_any};
 ghost use Rattle.lock_queue.specs.Jobs.{waits_for};
-ghost use Rattle.lock_queue.specs.Waits.{is_in_circle, jobs};
+ghost use Rattle.lock_queue.specs.Waits.{is_circle, is_in_circle, jobs, leads_to};
 ghost use Rattle.run_notes.specs.Words.{AreJobTexts, IsCircleLine, IsCircleText, IsFromLeast};
 ghost use Rattle.run_notes.specs.Words.{circle_words, first_or, had_words, job_words, waited_words};
 ghost use Rattle.word36.specs.declared.sizes.TheConstants.{JOBS};
@@ -15,10 +15,13 @@ use std::alloc::{AllocError, Global};
 use wait_graph::{LockBetween, NUMBERS, circle_through, is_in_circle, lock_between};
 use word36::JOBS;
 
-/// The circle of waits that a job is in, if it is in one: each job of it waits for the next, and the last for the
-/// first.
+/// A shortest circle of waits that a job is in, if it is in one: each job of it waits for the next, and the last for the
+/// first, which is the job.
 pub fn circle_of(alloc: Global, machine: &Machine, job: u8) -> Result<Option<Vec<u8>>, AllocError>
+    ensures circle { IfOk result (λ o. IfSome o (λ circle. is_circle (waits_for machine.now.world.requests) circle.items ≡ true)) }
     ensures through { IfOk result (λ o. IfSome o (λ circle. slice_get circle.items 0 ≡ Some job)) }
+    ensures shortest { IfOk result (λ o. IfSome o (λ circle. (n : ℕ) → n < length circle.items
+        → leads_to (waits_for machine.now.world.requests) n job job ≡ false)) }
     ensures none { IfOk result (λ o. o ≡ None → job ≤ JOBS → is_in_circle (waits_for machine.now.world.requests) job ≡ false) }
 {
     let waiting = machine.waiting_jobs();

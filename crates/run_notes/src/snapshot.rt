@@ -94,6 +94,7 @@ fn registers_of(machine: &Machine, number: u8) -> [Word; REGISTERS] {
 
 /// What a job executes at an address, and what it finds there.
 pub fn snapshot_of(machine: &Machine, number: u8, place: Address) -> Snapshot
+    ensures place { result.place ≡ place }
     ensures instruction { IfSome (word_in machine.now.world number place) (λ w. result.instruction ≡ w) }
     ensures executed { (j : Job) → job_at machine.now.world.table.jobs number ≡ Some j → length j.regs.ac ≡ 16
         → IfSome (word_found (word_behind MOST_EXECUTES j.regs.ac (core_of machine.now.world.cores number) result.instruction))
