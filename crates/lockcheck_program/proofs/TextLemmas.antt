@@ -3,6 +3,7 @@ use Rattle.std.proofs.Common.{◌≡◌, ◌<◌, ◌+◌, ◌++◌, ◌∙◌, 
 use Rattle.std.proofs.lemmas.Grind.{common_steps}
 use Rattle.std.proofs.Math.Seq.{take-length}
 use Rattle.std.specs.Io.KnownBytes.{Appends}
+use Rattle.std.specs.Prelude.{is_err}
 use Rattle.std.specs.List.{flat_map}
 use Rattle.script_io.specs.Ports.{WritesAll}
 
@@ -11,6 +12,12 @@ pub begun : {T E : Type 0} (old new : Option (List ℕ)) (failed : Bool) (r : Re
     → WritesAll old new failed r bytes → (n : ℕ) × Appends old new (take n bytes)
 begun old new failed (Ok u) bytes h = (length bytes, subst (λ b. Appends old new b) (sym (take-length bytes)) h.0)
 begun old new failed (Err e) bytes h = h.0
+
+-- a write of all fails where the port has failed
+pub fails_with : {T E : Type 0} (old new : Option (List ℕ)) (failed : Bool) (r : Result T E) (bytes : List ℕ)
+    → WritesAll old new failed r bytes → is_err r ≡ failed
+fails_with old new failed (Ok u) bytes h = sym h.1
+fails_with old new failed (Err e) bytes h = sym h.1
 
 -- what is made of one more is added
 pub more_made : {X : Type 0} (f : X → List ℕ) (xs : List X) (i : ℕ) (d : X) (old sofar new : List ℕ) → i < length xs

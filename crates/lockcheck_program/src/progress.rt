@@ -1,5 +1,5 @@
 //! Reports how far a long search is.
-ghost use Rattle.std.specs.Prelude.{◌≡◌, false, not, take, ℕ, IfOk};
+ghost use Rattle.std.specs.Prelude.{◌≡◌, ◌||◌, false, not, take, ℕ, IfOk};
 ghost use Rattle.lockcheck_program.specs.declared.progress.TheConstants.{EACH};
 ghost use Rattle.std.specs.Io.KnownBytes.{Appends};
 ghost use Rattle.lockcheck_program.specs.Looking.{Tells, is_silent, next_line, progress_line};
@@ -57,6 +57,7 @@ impl<W: ByteOut + Drop> Progress<W> {
         requires { self.old.is_closed ≡ false }
         ensures next { self.new.next ≡ self.old.next }
         ensures written { (n : ℕ) × Appends (W.written self.old.inner) (W.written self.new.inner) (take n bytes.now) }
+        ensures closed { self.new.is_closed ≡ W.has_failed self.new.inner }
     {
         let written = write_all(&mut self.inner, bytes);
         self.is_closed = written.is_err();
@@ -66,7 +67,8 @@ impl<W: ByteOut + Drop> Progress<W> {
 impl<W: ByteOut + Drop> Watch for Progress<W> {
     ghost Looks = { λ old new met done.
         Tells (is_silent old.is_closed old.next met) (W.written old.inner) (W.written new.inner) (progress_line met done)
-        × (new.next ≡ next_line (is_silent old.is_closed old.next met) old.next met) };
+        × (new.next ≡ next_line (is_silent old.is_closed old.next met) old.next met)
+        × (new.is_closed ≡ (old.is_closed || W.has_failed new.inner)) };
 
     fn look(&mut self, met: usize, done: usize) {
         if self.is_closed || met < self.next {
