@@ -144,7 +144,9 @@ impl Timeline {
     }
 
     /// How many whole entries have happened.
-    pub fn happened(&self) -> usize {
+    pub fn happened(&self) -> usize
+        ensures { result ≡ length (whole_entries self.now) }
+    {
         self.whole
     }
 
