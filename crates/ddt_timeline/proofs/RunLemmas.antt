@@ -4,10 +4,11 @@ use Rattle.std.proofs.Common.{◌≡◌, ◌<◌, ◌∙◌, false, sym, ap, ℕ
 use Rattle.std.proofs.Common.{Some, None, take, refl, arith, length, get_or, map, add-one}
 use Rattle.machine.specs.Machine.{S, after, stepped}
 use Rattle.machine.specs.Rounds.{rounds}
-use Rattle.ddt_timeline.specs.Stops.{ran_of, round, noted}
+use Rattle.ddt_timeline.specs.Stops.{noted, ran_of, round, stops_of}
 use Rattle.ddt_timeline.specs.Timelines.{made, played, reached, steps_in, steps_of}
 use Rattle.ddt_timeline.specs.declared.entries.Entry.{Entry}
 use Rattle.ddt_timeline.specs.declared.entries.Entry.TheVariants.{Rounds}
+use Rattle.ddt_timeline.specs.declared.stops.Stop.{Stop}
 use Rattle.ddt_timeline.specs.declared.stops.WatchedStop.{WatchedStop}
 
 -- a step's answer names the job that ran
@@ -51,6 +52,14 @@ reached_more es e whole s all =
 pub noted_again : (stops : List WatchedStop) (s t : S) → map (noted t) (map (noted s) stops) ≡ map (noted t) stops
 noted_again [] s t = refl
 noted_again (p ∷ ps) s t = ap (λ (qs : List WatchedStop). noted t p ∷ qs) (noted_again ps s t)
+
+noted_stops : (stops : List WatchedStop) (m : S) → stops_of (map (noted m) stops) ≡ stops_of stops
+noted_stops [] m = refl
+noted_stops (p ∷ ps) m = ap (λ (l : List Stop). p.stop ∷ l) (noted_stops ps m)
+
+-- stops that were noted are the same stops
+pub same_stops : (stops seen : List WatchedStop) (m : S) → seen ≡ map (noted m) stops → stops_of seen ≡ stops_of stops
+same_stops stops seen m now = ap (λ (l : List WatchedStop). stops_of l) now ∙ noted_stops stops m
 
 -- the stops, noted anew behind a round
 pub noted_on : (stops seen seen' : List WatchedStop) (m m' : S) → seen ≡ map (noted m) stops → seen' ≡ map (noted m') seen → seen' ≡ map (noted m') stops

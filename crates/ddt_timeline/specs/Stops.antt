@@ -121,6 +121,10 @@ is_met stood s ran Input = does_some_wait_for_input s ran
 abbrev pub noted : S → WatchedStop → WatchedStop
 noted s p = record p { stood = is_at s p.stop }
 
+-- the stops that are watched
+abbrev pub stops_of : List WatchedStop → List Stop
+stops_of stops = map (λ p. p.stop) stops
+
 -- whether a watched stop holds after a round in which a job ran
 abbrev pub is_met_at : S → Option ℕ → WatchedStop → Bool
 is_met_at s ran p = is_met p.stood s ran p.stop

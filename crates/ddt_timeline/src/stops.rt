@@ -463,6 +463,7 @@ pub fn run_until<W: Watch>(
 ) -> Run
     ensures state { machine.new ≡ after (rounds result.made true) machine.old }
     ensures run { IsRun machine.old stops.old most result }
+    ensures stood { stops.new ≡ map (noted machine.new) stops.old }
     ensures watched { result.by_watch ≡ true → W.looks watch.old ≡ true }
     ensures asked { W.looks watch.old ≡ true → 1 ≤ result.made → IsAsked W.Asks machine.old watch.old watch.new result }
 {

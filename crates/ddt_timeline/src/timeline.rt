@@ -88,6 +88,7 @@ impl Timeline {
     ghost use Rattle.ddt_timeline.specs.Histories.{history_of, is_before_step, machine_of, one_step, things_of};
     ghost use Rattle.ddt_timeline.specs.Asking.{IsAsked};
     ghost use Rattle.ddt_timeline.specs.Runs.{IsRun};
+    ghost use Rattle.ddt_timeline.specs.Stops.{stops_of};
     ghost use Rattle.ddt_timeline.specs.Timelines.{answer_to, ticks_in};
     ghost use Rattle.ddt_timeline.specs.Views.{history, steps_behind, whole_entries};
 
@@ -222,6 +223,7 @@ impl Timeline {
     ) -> Result<Run, AllocError>
         ensures happened { IfOk result (λ ran. history self.new ≡ done (history self.old) (replicate ran.made one_step)) }
         ensures run { IfOk result (λ ran. IsRun (machine_of (history self.old)) stops.old most ran) }
+        ensures stops { stops_of stops.new ≡ stops_of stops.old }
         ensures watched { IfOk result (λ ran. ran.by_watch ≡ true → W.looks watch.old ≡ true) }
         ensures asked { IfOk result (λ ran. W.looks watch.old ≡ true → 1 ≤ ran.made
             → IsAsked W.Asks (machine_of (history self.old)) watch.old watch.new ran) }

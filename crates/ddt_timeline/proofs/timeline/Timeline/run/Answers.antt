@@ -3,6 +3,7 @@ use Rattle.machine.specs.Machine.{S}
 use Rattle.ddt_timeline.specs.Asking.{IsAsked}
 use Rattle.ddt_timeline.specs.Runs.{IsRun}
 use Rattle.ddt_timeline.proofs.HistoryLemmas.{past_reached}
+use Rattle.ddt_timeline.proofs.RunLemmas.{same_stops}
 use Rattle.ddt_timeline.proofs.timeline.Timeline.run.Goals as goal
 
 pub returns-clause-run : goal.returns-clause-run
@@ -21,3 +22,6 @@ returns-clause-asked g c =
     ∙ c.args.self.now.reached
     ∙ past_reached c.args.self.now.entries.items c.args.self.now.whole c.args.self.now.part _)
     (c.run_until-ran.ensures.asked looks some)
+
+pub returns-clause-stops : goal.returns-clause-stops
+returns-clause-stops g c = same_stops c.args.stops.now _ c.run_until-ran.new.machine c.run_until-ran.ensures.stood
