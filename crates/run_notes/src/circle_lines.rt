@@ -15,8 +15,8 @@ use std::alloc::{AllocError, Global};
 use wait_graph::{LockBetween, NUMBERS, circle_through, is_in_circle, lock_between};
 use word36::JOBS;
 
-/// A shortest circle of waits that a job is in, if it is in one: each job of it waits for the next, and the last for the
-/// first, which is the job.
+/// A shortest circle of waits that a job is in, if it is in one: each job of it waits for the next, and the last for
+/// the first, which is the job.
 pub fn circle_of(alloc: Global, machine: &Machine, job: u8) -> Result<Option<Vec<u8>>, AllocError>
     ensures circle { IfOk result (λ o. IfSome o (λ circle. is_circle (waits_for machine.now.world.requests) circle.items ≡ true)) }
     ensures through { IfOk result (λ o. IfSome o (λ circle. slice_get circle.items 0 ≡ Some job)) }

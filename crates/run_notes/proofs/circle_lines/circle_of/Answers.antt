@@ -31,5 +31,6 @@ returns-clause-shortest c =
     let number : c.args.job < NUMBERS = omega arith in
     IfOk-weaker c.circle_through.result _ _
     (λ o found. IfSome_then o found
-    (λ circle short n few. steps_wait pairs c.args.machine.now.world.requests c.pair_table-pairs.ensures.pairs n c.args.job number (short n few)))
+    (λ circle short n few.
+    steps_wait pairs c.args.machine.now.world.requests c.pair_table-pairs.ensures.pairs n c.args.job number (short n few)))
     c.circle_through.ensures.shortest
