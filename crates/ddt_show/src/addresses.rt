@@ -1,5 +1,7 @@
 //! Addresses, and the words there.
 
+ghost use Rattle.std.specs.Prelude.{◌≡◌, ◌+◌, ◌%◌, ◌^◌, ◌<◌};
+
 use crate::word_text::WordText;
 use ddt_commands::OutputMode;
 use run_notes::Reference;
@@ -20,12 +22,17 @@ pub struct ShownJob {
 const ADDRESSES: u32 = 0o1_000_000;
 
 /// The address behind one; that behind the last is 0.
-pub fn next_address(address: u32) -> u32 {
+pub fn next_address(address: u32) -> u32
+    ensures { address < 2 ^ 18 → result ≡ (address + 1) % 2 ^ 18 }
+{
     address.saturating_add(1) % ADDRESSES
 }
 
 /// The address before one; that before 0 is the last.
-pub fn previous_address(address: u32) -> u32 {
+pub fn previous_address(address: u32) -> u32
+    ensures below { address < 2 ^ 18 → result < 2 ^ 18 }
+    ensures next { address < 2 ^ 18 → (result + 1) % 2 ^ 18 ≡ address }
+{
     match address {
         0 => ADDRESSES - 1,
         address => address - 1,
