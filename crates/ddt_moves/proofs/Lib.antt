@@ -1,1 +1,3 @@
 mod ReplayLemmas
+mod WatchLemmas
+mod EndLemmas

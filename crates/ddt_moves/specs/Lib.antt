@@ -1,3 +1,7 @@
-pub mod RunStops
 pub mod Edits
+pub mod OtherEnds
 pub mod Replays
+pub mod RunEnds
+pub mod RunStops
+pub mod Starts
+pub mod StopLists

@@ -1,11 +1,14 @@
 -- The stops of a run of the debugger: those of a command, and those that stand in the tables of the user (this project's profile).
-use Rattle.std.specs.Prelude.{◌++◌, nat_lt, Bool, true, false, List, [], ◌∷◌, map, Option, Some, None}
+use Rattle.std.specs.Prelude.{◌++◌, ◌+◌, ℕ, nat_lt, Bool, true, false, List, [], ◌∷◌, map, Option, Some, None}
+use Rattle.std.specs.Prelude.{if◌then◌else◌, slice_get}
 use Rattle.std.specs.List.{flat_map}
 use Rattle.machine.specs.Machine.{S}
 use Rattle.machine.specs.Views.{word_in}
 use Rattle.ddt_timeline.specs.declared.stops.Stop.{Stop}
-use Rattle.ddt_timeline.specs.declared.stops.Stop.TheVariants.{At, Word, Circle}
+use Rattle.ddt_timeline.specs.declared.stops.Stop.TheVariants.{At, Turn, End, Word, Circle, Input}
 use Rattle.ddt_timeline.specs.declared.stops.WatchedStop.{WatchedStop}
+use Rattle.ddt_moves.specs.declared.run_stops.Cause.{Cause}
+use Rattle.ddt_moves.specs.declared.run_stops.Cause.TheVariants as cause
 use Rattle.ddt_moves.specs.declared.stop_lists.Breakpoint.{Breakpoint}
 use Rattle.ddt_moves.specs.declared.stop_lists.StopList.{StopList}
 use Rattle.ddt_moves.specs.declared.stop_lists.WatchedWord.{WatchedWord}
@@ -36,3 +39,30 @@ stop_of_circles false = []
 -- the stops of the user's tables: the breakpoints of all jobs that stop each time, the watched words as they are now, and circles
 abbrev pub stops_in : S → StopList → List Stop
 stops_in s list = flat_map stop_at list.breakpoints ++ map (stop_of_word s) list.words.items ++ stop_of_circles list.circles
+
+-- ---- why a run stopped
+
+-- the cause where a stop ended a run: that of the breakpoint of this number, or 0 where it is that of none
+abbrev pub cause_of : ℕ → Stop → Cause
+cause_of number (At job address condition) = if nat_lt 0 number then cause.Breakpoint number job address else cause.Own
+cause_of number (Turn job) = cause.Own
+cause_of number (End job) = cause.Own
+cause_of number (Word job address was) = cause.Word job address was
+cause_of number Circle = cause.Circle
+cause_of number Input = cause.Input
+
+-- those of the stops of some breakpoints, numbered from this number on
+abbrev pub causes_from : ℕ → List (Option Breakpoint) → List Cause
+causes_from number [] = []
+causes_from number (b ∷ later) = map (cause_of number) (stop_at b) ++ causes_from (number + 1) later
+
+-- those of the stops of the user's tables
+abbrev pub causes_in : S → StopList → List Cause
+causes_in s list =
+    causes_from 1 list.breakpoints ++ map (cause_of 0) (map (stop_of_word s) list.words.items)
+    ++ map (cause_of 0) (stop_of_circles list.circles)
+
+-- the one of the stop at a position, if a stop ended the run
+abbrev pub cause_at : List Cause → Option ℕ → Option Cause
+cause_at causes (Some position) = slice_get causes position
+cause_at causes None = None

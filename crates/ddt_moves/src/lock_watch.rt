@@ -1,11 +1,16 @@
 //! A watch for calls on a lock, for grants, and for breakpoints that count.
 
-ghost use Rattle.std.specs.Prelude.{◌≡◌, true};
+ghost use Rattle.std.specs.Prelude.{◌≡◌, [], Bool, IfOk, IfSome, false, is_some, true};
+ghost use Rattle.lock_queue.specs.Queue.{some_behind};
+ghost use Rattle.run_facts.specs.Grants.{is_new_grant};
+ghost use Rattle.ddt_timeline.specs.Histories.{machine_of};
+ghost use Rattle.ddt_timeline.specs.Views.{history};
+ghost use Rattle.ddt_moves.specs.OtherEnds.{HasLooked, ends_for, is_grant, list_of, seen_by, sees_grant};
 
 use crate::run_stops::Cause;
 use crate::stop_lists::StopList;
 use crate::turns::{NUMBERS, pcs_of};
-use crate::visits::{Counter, counters_of};
+use crate::visits::{Counter, counted_cause, counters_of};
 use concrete_machine::Machine;
 use ddt_timeline::{Timeline, Watch};
 use lock_queue::{Name, Request};
@@ -59,7 +64,9 @@ pub(crate) fn first_standing(
     first: u8,
     last: u8,
     list: &StopList,
-) -> Result<Option<Cause>, AllocError> {
+) -> Result<Option<Cause>, AllocError>
+    ensures { IfOk result (λ cause. ends_for list.now machine.now false cause ≡ true) }
+{
     let Some(name) = &list.lock else {
         return Ok(None);
     };
@@ -71,16 +78,21 @@ pub(crate) fn first_standing(
     Ok(None)
 }
 
-/// The first job that came to a call on a lock of this name in a round in which a job ran: it had its turn, or a tick changed
+/// The first job that came to a call on the lock of `.BREAK LOCK` in a round in which a job ran: it had its turn, or a tick changed
 /// its PC. `before` has the PC of each job before the round, and `pcs` behind it.
 fn first_caller(
     alloc: Global,
     machine: &Machine,
-    name: &Name,
+    list: &StopList,
     before: &[Option<Address>; NUMBERS],
     pcs: &[Option<Address>; NUMBERS],
     ran: Option<u8>,
-) -> Result<Option<Cause>, AllocError> {
+) -> Result<Option<Cause>, AllocError>
+    ensures { IfOk result (λ cause. ends_for list.now machine.now false cause ≡ true) }
+{
+    let Some(name) = &list.lock else {
+        return Ok(None);
+    };
     for number in 1..JOBS + 1 {
         let slot = usize::from(number);
         let has_come = ran == Some(number) || pcs[slot] != before[slot];
@@ -92,7 +104,9 @@ fn first_caller(
 }
 
 /// Whether one of some requests is granted and was not granted before.
-fn has_new_grant(before: &[Request], requests: &[Request]) -> bool {
+fn has_new_grant(before: &[Request], requests: &[Request]) -> bool
+    ensures { result ≡ some_behind (is_new_grant before.now) [] requests.now }
+{
     for position in 0..requests.len() {
         if is_new_grant(before, requests, position) {
             return true;
@@ -101,9 +115,35 @@ fn has_new_grant(before: &[Request], requests: &[Request]) -> bool {
     false
 }
 
+/// The first breakpoint that counts to which its job came in a round, for one of the times that stop a run.
+fn first_counted(
+    counters: &mut [Counter],
+    machine: &Machine,
+    ran: Option<u8>,
+    list: &StopList,
+) -> Option<Cause>
+    ensures { IfSome result (λ cause. (granted : Bool) → ends_for list.now machine.now granted (Some cause) ≡ true) }
+{
+    // A cause may hold a word: the prover wants its type to be named.
+    let _word: Option<Word> = None;
+    let mut first = None;
+    for counter in counters.iter_mut() {
+        if counter.see_round(machine, ran) && first.is_none() {
+            first = Some(counter.slot());
+        }
+    }
+    match first {
+        Some(slot) => counted_cause(machine, list, slot),
+        None => None,
+    }
+}
+
 impl<'a> LockWatch<'a> {
     /// A watch of a run that begins now.
-    pub fn new(timeline: &Timeline, list: &'a StopList) -> Result<Self, AllocError> {
+    pub fn new(timeline: &Timeline, list: &'a StopList) -> Result<Self, AllocError>
+        ensures list { IfOk result (λ watch. list_of watch ≡ list.now) }
+        ensures seen { IfOk result (λ watch. seen_by watch ≡ (machine_of (history timeline.now)).world.requests) }
+    {
         let (alloc, machine) = (timeline.alloc(), timeline.machine());
         Ok(LockWatch {
             alloc,
@@ -116,21 +156,14 @@ impl<'a> LockWatch<'a> {
         })
     }
 
-    /// The first breakpoint that counts to which its job came in a round, for one of the times that stop a run.
-    fn first_counted(&mut self, machine: &Machine, ran: Option<u8>) -> Option<Cause> {
-        // A cause may hold a word: the prover wants its type to be named.
-        let _word: Option<Word> = None;
-        let mut cause = None;
-        for counter in self.counters.as_mut_slice().iter_mut() {
-            if counter.see_round(machine, ran) && cause.is_none() {
-                cause = Some(counter.cause());
-            }
-        }
-        cause
-    }
-
     /// Whether a request was granted in a round; where none was, the requests of now are kept.
-    fn sees_grant(&mut self, machine: &Machine) -> Result<bool, AllocError> {
+    fn sees_grant(&mut self, machine: &Machine) -> Result<bool, AllocError>
+        ensures list { list_of self.new ≡ list_of self.old }
+        ensures sees { IfOk result (λ sees. sees ≡ sees_grant self.old machine.now) }
+        ensures seen { IfOk result (λ sees. sees ≡ false → (list_of self.old).grants ≡ true
+            → seen_by self.new ≡ machine.now.world.requests) }
+        ensures kept { IfOk result (λ sees. sees ≡ true → seen_by self.new ≡ seen_by self.old) }
+    {
         if !self.list.grants {
             return Ok(false);
         }
@@ -143,8 +176,14 @@ impl<'a> LockWatch<'a> {
     }
 
     /// Why the run ends behind a round in which a job ran, if it does.
-    fn look(&mut self, machine: &Machine, ran: Option<u8>) -> Result<Option<Cause>, AllocError> {
-        let counted = self.first_counted(machine, ran);
+    fn look(&mut self, machine: &Machine, ran: Option<u8>) -> Result<Option<Cause>, AllocError>
+        ensures list { list_of self.new ≡ list_of self.old }
+        ensures cause { IfOk result (λ cause. ends_for (list_of self.old) machine.now (sees_grant self.old machine.now) cause ≡ true) }
+        ensures seen { IfOk result (λ cause. is_some cause ≡ false → (list_of self.old).grants ≡ true
+            → seen_by self.new ≡ machine.now.world.requests) }
+        ensures kept { IfOk result (λ cause. is_grant cause ≡ true → seen_by self.new ≡ seen_by self.old) }
+    {
+        let counted = first_counted(self.counters.as_mut_slice(), machine, ran, self.list);
         if counted.is_some() {
             return Ok(counted);
         }
@@ -152,10 +191,7 @@ impl<'a> LockWatch<'a> {
             return Ok(Some(Cause::Grant));
         }
         let pcs = pcs_of(machine);
-        let cause = match &self.list.lock {
-            Some(name) => first_caller(self.alloc, machine, name, &self.pcs, &pcs, ran),
-            None => Ok(None),
-        };
+        let cause = first_caller(self.alloc, machine, self.list, &self.pcs, &pcs, ran);
         self.pcs = pcs;
         cause
     }
@@ -164,8 +200,7 @@ impl<'a> LockWatch<'a> {
 impl Watch for LockWatch<'_> {
     ghost looks = { λ watch. true };
 
-    // What it makes of a round is only tested.
-    ghost Asks = { λ old new s ran ends. ends ≡ ends };
+    ghost Asks = { λ old new s _ ends. HasLooked old new s ends };
 
     fn looks_at_rounds(&self) -> bool {
         true

@@ -1,6 +1,7 @@
 //! The stops of a run, and why it stopped.
 ghost use Rattle.std.specs.Prelude.{◌≡◌, ◌++◌, [], ◌∷◌, IfOk, OnOk, map};
 ghost use Rattle.std.specs.List.{flat_map};
+ghost use Rattle.ddt_moves.specs.RunStops.{cause_at, cause_of, causes_from, causes_in};
 ghost use Rattle.ddt_moves.specs.RunStops.{stop_at, stop_if_each, stop_of_circles, stop_of_word, stops_in, watched};
 
 use crate::stop_lists::{Breakpoint, StopList, WatchedWord};
@@ -33,30 +34,51 @@ pub enum Cause {
 pub struct RunStops {
     /// The stops.
     pub stops: Vec<WatchedStop>,
-    /// For each stop the number of its breakpoint, from 1; 0 where it is none.
-    pub numbers: Vec<usize>,
+    /// For each stop why a run stopped that it ended.
+    pub causes: Vec<Cause>,
     /// The addresses of the stops at addresses.
     pub addresses: Vec<Address>,
+}
+
+/// Why a run stopped that a stop ended, where it is that of the breakpoint of this number, or 0 where it is that of none.
+fn cause_of(number: usize, stop: &Stop) -> Cause
+    ensures { result ≡ cause_of number stop.now }
+{
+    match *stop {
+        Stop::At(job, address, _) => {
+            if number > 0 {
+                Cause::Breakpoint(number, job, address.number())
+            } else {
+                Cause::Own
+            }
+        }
+        Stop::Turn(_) | Stop::End(_) => Cause::Own,
+        Stop::Word(job, address, was) => Cause::Word(job, address, was),
+        Stop::Circle => Cause::Circle,
+        Stop::Input => Cause::Input,
+    }
 }
 
 impl RunStops {
     /// Adds a stop, with the number of its breakpoint, or 0.
     pub fn add(&mut self, stop: Stop, number: usize) -> Result<(), AllocError>
-        ensures { OnOk result (self.new.stops.items ≡ self.old.stops.items ++ watched stop ∷ []) }
+        ensures stops { OnOk result (self.new.stops.items ≡ self.old.stops.items ++ watched stop ∷ []) }
+        ensures causes { OnOk result (self.new.causes.items ≡ self.old.causes.items ++ cause_of number stop ∷ []) }
     {
         // A stop may hold a word, or none: the prover wants that type to be named.
         let _word: Option<Word> = None;
         if let Stop::At(_, address, _) = stop {
             self.addresses.push(address)?;
         }
-        self.numbers.push(number)?;
+        self.causes.push(cause_of(number, &stop))?;
         self.stops.push(WatchedStop { stop, stood: false })?;
         Ok(())
     }
 
     /// Adds the stops of a command, which are no breakpoints.
     fn add_own(&mut self, own: &[Stop]) -> Result<(), AllocError>
-        ensures { OnOk result (self.new.stops.items ≡ self.old.stops.items ++ map watched own.now) }
+        ensures stops { OnOk result (self.new.stops.items ≡ self.old.stops.items ++ map watched own.now) }
+        ensures causes { OnOk result (self.new.causes.items ≡ self.old.causes.items ++ map (cause_of 0) own.now) }
     {
         for stop in own {
             self.add(*stop, 0)?;
@@ -71,7 +93,9 @@ impl RunStops {
         breakpoint: &Breakpoint,
         number: usize,
     ) -> Result<(), AllocError>
-        ensures { OnOk result (self.new.stops.items ≡ self.old.stops.items ++ map watched (stop_if_each counts breakpoint.now)) }
+        ensures stops { OnOk result (self.new.stops.items ≡ self.old.stops.items ++ map watched (stop_if_each counts breakpoint.now)) }
+        ensures causes { OnOk result
+            (self.new.causes.items ≡ self.old.causes.items ++ map (cause_of number) (stop_if_each counts breakpoint.now)) }
     {
         if counts {
             Ok(())
@@ -86,7 +110,9 @@ impl RunStops {
         breakpoint: &Option<Breakpoint>,
         number: usize,
     ) -> Result<(), AllocError>
-        ensures { OnOk result (self.new.stops.items ≡ self.old.stops.items ++ map watched (stop_at breakpoint.now)) }
+        ensures stops { OnOk result (self.new.stops.items ≡ self.old.stops.items ++ map watched (stop_at breakpoint.now)) }
+        ensures causes { OnOk result
+            (self.new.causes.items ≡ self.old.causes.items ++ map (cause_of number) (stop_at breakpoint.now)) }
     {
         match breakpoint {
             Some(one) => self.add_each(one.counts(), one, number),
@@ -96,17 +122,21 @@ impl RunStops {
 
     /// Adds the stops of the breakpoints that are set and for which each time counts.
     fn add_breakpoints(&mut self, breakpoints: &[Option<Breakpoint>]) -> Result<(), AllocError>
-        ensures { OnOk result (self.new.stops.items ≡ self.old.stops.items ++ map watched (flat_map stop_at breakpoints.now)) }
+        ensures stops { OnOk result (self.new.stops.items ≡ self.old.stops.items ++ map watched (flat_map stop_at breakpoints.now)) }
+        ensures causes { OnOk result (self.new.causes.items ≡ self.old.causes.items ++ causes_from 1 breakpoints.now) }
     {
         for i in 0..breakpoints.len() {
-            self.add_breakpoint(&breakpoints[i], i.saturating_add(1))?;
+            self.add_breakpoint(&breakpoints[i], i + 1)?;
         }
         Ok(())
     }
 
     /// Adds the stops of watched words, as they are now.
     fn add_words(&mut self, machine: &Machine, words: &[WatchedWord]) -> Result<(), AllocError>
-        ensures { OnOk result (self.new.stops.items ≡ self.old.stops.items ++ map watched (map (stop_of_word machine.now) words.now)) }
+        ensures stops { OnOk result
+            (self.new.stops.items ≡ self.old.stops.items ++ map watched (map (stop_of_word machine.now) words.now)) }
+        ensures causes { OnOk result
+            (self.new.causes.items ≡ self.old.causes.items ++ map (cause_of 0) (map (stop_of_word machine.now) words.now)) }
     {
         for one in words {
             let word = machine.peek(one.job, one.address);
@@ -117,7 +147,8 @@ impl RunStops {
 
     /// Adds the stop of circles, where runs stop there.
     fn add_circles(&mut self, circles: bool) -> Result<(), AllocError>
-        ensures { OnOk result (self.new.stops.items ≡ self.old.stops.items ++ map watched (stop_of_circles circles)) }
+        ensures stops { OnOk result (self.new.stops.items ≡ self.old.stops.items ++ map watched (stop_of_circles circles)) }
+        ensures causes { OnOk result (self.new.causes.items ≡ self.old.causes.items ++ map (cause_of 0) (stop_of_circles circles)) }
     {
         if circles {
             self.add(Stop::Circle, 0)
@@ -126,19 +157,13 @@ impl RunStops {
         }
     }
 
-    /// Why a run stopped that the stop at this position ended.
-    pub fn cause(&self, stop: Option<usize>) -> Option<Cause> {
-        let position = stop?;
-        let watched = self.stops.as_slice().get(position)?;
-        let number = self.numbers.as_slice().get(position).copied().unwrap_or(0);
-        match watched.stop {
-            Stop::At(job, address, _) if number > 0 => {
-                Some(Cause::Breakpoint(number, job, address.number()))
-            }
-            Stop::Word(job, address, was) => Some(Cause::Word(job, address, was)),
-            Stop::Circle => Some(Cause::Circle),
-            Stop::Input => Some(Cause::Input),
-            _ => Some(Cause::Own),
+    /// Why a run stopped that the stop at this position ended, if one did.
+    pub fn cause(&self, stop: Option<usize>) -> Option<Cause>
+        ensures { result ≡ cause_at self.now.causes.items stop }
+    {
+        match stop {
+            Some(position) => self.causes.as_slice().get(position).copied(),
+            None => None,
         }
     }
 }
@@ -150,11 +175,12 @@ pub fn stops_of(
     own: &[Stop],
     list: &StopList,
 ) -> Result<RunStops, AllocError>
-    ensures { IfOk result (λ run. run.stops.items ≡ map watched own.now ++ map watched (stops_in machine.now list.now)) }
+    ensures stops { IfOk result (λ run. run.stops.items ≡ map watched own.now ++ map watched (stops_in machine.now list.now)) }
+    ensures causes { IfOk result (λ run. run.causes.items ≡ map (cause_of 0) own.now ++ causes_in machine.now list.now) }
 {
     let mut stops = RunStops {
         stops: Vec::new(alloc),
-        numbers: Vec::new(alloc),
+        causes: Vec::new(alloc),
         addresses: Vec::new(alloc),
     };
     stops.add_own(own)?;

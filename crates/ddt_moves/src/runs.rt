@@ -1,10 +1,13 @@
 //! Runs up to the first stop.
-ghost use Rattle.std.specs.Prelude.{◌≡◌, ◌+◌, ◌<◌, ◌≤◌, ℕ, IfOk, None, replicate, true};
-ghost use Rattle.machine.specs.Machine.{after};
-ghost use Rattle.machine.specs.Rounds.{rounds};
+ghost use Rattle.std.specs.Prelude.{◌≡◌, ◌&&◌, IfOk, None, OnOk, false, is_none, min, nat_le, not, replicate, string_bytes, true};
+ghost use Rattle.run_notes.specs.Words.{grants_words};
 ghost use Rattle.ddt_timeline.specs.Histories.{done, machine_of, one_step};
-ghost use Rattle.ddt_timeline.specs.Stops.{met_after};
+ghost use Rattle.ddt_timeline.specs.Stops.{stops_of};
+ghost use Rattle.ddt_timeline.specs.Timelines.{ticks_in};
 ghost use Rattle.ddt_timeline.specs.Views.{history};
+ghost use Rattle.ddt_moves.specs.OtherEnds.{is_grant, lines_behind, seen_by};
+ghost use Rattle.ddt_moves.specs.RunEnds.{IsEnd, IsWatchEnd, stop_behind};
+ghost use Rattle.ddt_moves.specs.RunStops.{cause_at};
 
 use crate::lock_watch::LockWatch;
 use crate::run_stops::{Cause, RunStops};
@@ -27,7 +30,9 @@ pub struct RunEnd {
 impl RunEnd {
     /// The end of a run to some stops that could make `most` steps.
     fn of(stops: &RunStops, ran: Run, most: u32) -> Self
-        ensures { result.made ≡ ran.made }
+        ensures made { result.made ≡ ran.made }
+        ensures cause { result.cause ≡ cause_at stops.now.causes.items ran.stop }
+        ensures cut { result.is_cut ≡ ((is_none ran.stop && not ran.by_watch) && nat_le most ran.made) }
     {
         RunEnd {
             made: ran.made,
@@ -38,7 +43,9 @@ impl RunEnd {
 
     /// The end of a run that makes no step.
     pub fn at_once(cause: Option<Cause>) -> Self
-        ensures { result.made ≡ 0 }
+        ensures made { result.made ≡ 0 }
+        ensures cause { result.cause ≡ cause }
+        ensures cut { result.is_cut ≡ false }
     {
         RunEnd {
             made: 0,
@@ -48,8 +55,8 @@ impl RunEnd {
     }
 }
 
-/// Makes steps until a stop holds, no job can go on, or `most` are made: behind none of them but the last did a stop hold.
-/// Where a grant ends the run, the lines on it replace `grants`.
+/// Makes steps until a stop holds, no job can go on, or `most` are made, and says which stop held: of several the first. Where a
+/// grant ends the run, the lines on it replace `grants`.
 pub fn run_to(
     timeline: &mut Timeline,
     stops: &mut RunStops,
@@ -58,11 +65,15 @@ pub fn run_to(
     grants: &mut String,
 ) -> Result<RunEnd, AllocError>
     ensures happened { IfOk result (λ end. history timeline.new ≡ done (history timeline.old) (replicate end.made one_step)) }
-    ensures few { IfOk result (λ end. end.made ≤ most) }
-    ensures none_over { IfOk result (λ end. (k : ℕ) → k + 1 < end.made
-        → met_after stops.old.stops.items (after (rounds k true) (machine_of (history timeline.old))) ≡ None) }
+    ensures end { IfOk result (λ end. IsEnd (machine_of (history timeline.old)) stops.old list.now most end) }
+    ensures lines { IfOk result (λ end. is_grant end.cause ≡ true
+        → stop_behind stops.old.stops.items (machine_of (history timeline.old)) end.made ≡ None
+        → string_bytes grants.new
+        ≡ lines_behind (min u64.MAX (ticks_in (history timeline.new).past)) (machine_of (history timeline.old)) end.made) }
+    ensures stops { stops_of stops.new.stops.items ≡ stops_of stops.old.stops.items }
+    ensures causes { stops.new.causes ≡ stops.old.causes }
 {
-    if list.grants || list.lock.is_some() || list.counts() {
+    if list.needs_watch() {
         return run_watched(timeline, stops, list, most, grants);
     }
     let ran = timeline.run(
@@ -83,9 +94,13 @@ fn run_watched(
     grants: &mut String,
 ) -> Result<RunEnd, AllocError>
     ensures happened { IfOk result (λ end. history timeline.new ≡ done (history timeline.old) (replicate end.made one_step)) }
-    ensures few { IfOk result (λ end. end.made ≤ most) }
-    ensures none_over { IfOk result (λ end. (k : ℕ) → k + 1 < end.made
-        → met_after stops.old.stops.items (after (rounds k true) (machine_of (history timeline.old))) ≡ None) }
+    ensures end { IfOk result (λ end. IsEnd (machine_of (history timeline.old)) stops.old list.now most end) }
+    ensures lines { IfOk result (λ end. is_grant end.cause ≡ true
+        → stop_behind stops.old.stops.items (machine_of (history timeline.old)) end.made ≡ None
+        → string_bytes grants.new
+        ≡ lines_behind (min u64.MAX (ticks_in (history timeline.new).past)) (machine_of (history timeline.old)) end.made) }
+    ensures stops { stops_of stops.new.stops.items ≡ stops_of stops.old.stops.items }
+    ensures causes { stops.new.causes ≡ stops.old.causes }
 {
     let mut watch = LockWatch::new(timeline, list)?;
     let ran = timeline.run(
@@ -101,16 +116,20 @@ fn run_watched(
     }
 }
 
-/// Why a run of so many steps ended that its watch ended.
+/// The end of a run of so many steps that its watch ended; the lines on what was granted replace `grants`.
 fn ended_by(
     timeline: &Timeline,
     watch: &LockWatch<'_>,
     made: u32,
     grants: &mut String,
 ) -> Result<RunEnd, AllocError>
-    ensures { IfOk result (λ end. end.made ≡ made) }
+    ensures end { IfOk result (λ end. IsWatchEnd watch.now made end) }
+    ensures lines { OnOk result (string_bytes grants.new
+        ≡ grants_words (min u64.MAX (ticks_in (history timeline.now).past)) (seen_by watch.now)
+        (machine_of (history timeline.now)).world.requests) }
 {
-    if watch.has_failed {
+    // A watch is asked behind a step, so it ends no run before the first.
+    if watch.has_failed || made == 0 {
         return Err(AllocError);
     }
     let (alloc, ticks) = (timeline.alloc(), timeline.ticks());

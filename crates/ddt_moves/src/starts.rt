@@ -1,32 +1,57 @@
 //! Jobs that are started or continued.
 
+ghost use Rattle.std.specs.Prelude.{◌≡◌, ◌<◌, ◌∷◌, [], IfOk, IfSome, None, OnOk, false, length, position, true};
+ghost use Rattle.machine.specs.Views.{job_view};
+ghost use Rattle.ddt_timeline.specs.Histories.{done, machine_of};
+ghost use Rattle.ddt_timeline.specs.Views.{history};
+ghost use Rattle.ddt_timeline.specs.declared.entries.Entry.TheVariants.{Start};
+ghost use Rattle.ddt_moves.specs.Starts.{begun, cause_in, gone_on, holds_at_start, is_loaded, is_stopped, may_continue};
+ghost use Rattle.ddt_moves.specs.OtherEnds.{ends_for};
+
 use crate::lock_watch::first_standing;
 use crate::run_stops::Cause;
 use crate::stop_lists::{Breakpoint, StopList};
-use crate::visits::counters_of;
+use crate::visits::{counted_cause, counters_of, stands};
 use concrete_machine::Machine;
-use ddt_timeline::{Entry, Timeline, WatchedStop};
+use ddt_timeline::{Entry, Timeline};
 use job_sched::Stop;
 use std::alloc::AllocError;
+use word36::Word;
 
 /// Whether a job was not started yet.
-fn is_loaded(machine: &Machine, number: u8) -> bool {
+fn is_loaded(machine: &Machine, number: u8) -> bool
+    ensures { result ≡ is_loaded (job_view machine.now.world number) }
+{
     match machine.job(number) {
-        Some(view) => view.stop == Some(Stop::Loaded),
+        Some(view) => matches!(view.stop, Some(Stop::Loaded)),
         None => false,
     }
 }
 
 /// Whether a job is stopped.
-pub fn is_stopped(machine: &Machine, number: u8) -> bool {
+pub fn is_stopped(machine: &Machine, number: u8) -> bool
+    ensures { result ≡ is_stopped (job_view machine.now.world number) }
+{
     match machine.job(number) {
         Some(view) => view.stop.is_some(),
         None => false,
     }
 }
 
+/// Whether CTRL-C or EXIT 1 stopped a job, so that it can go on.
+fn may_continue(machine: &Machine, number: u8) -> bool
+    ensures { result ≡ may_continue (job_view machine.now.world number) }
+{
+    match machine.job(number) {
+        Some(view) => matches!(view.stop, Some(Stop::Typed | Stop::Monitor)),
+        None => false,
+    }
+}
+
 /// Starts a job.
-fn start(timeline: &mut Timeline, number: u8) -> Result<(), AllocError> {
+fn start(timeline: &mut Timeline, number: u8) -> Result<(), AllocError>
+    ensures { OnOk result (history timeline.new ≡ done (history timeline.old) (Start number ∷ [])) }
+{
     timeline.make(Entry::Start(number))?;
     Ok(())
 }
@@ -49,59 +74,107 @@ pub fn start_jobs(timeline: &mut Timeline, lines: u8, open: u8) -> Result<bool, 
 }
 
 /// Continues a job that CTRL-C or EXIT 1 stopped; false where nothing is to be done.
-pub fn go_on(timeline: &mut Timeline, number: u8) -> Result<bool, AllocError> {
-    let stop = match timeline.machine().job(number) {
-        Some(view) => view.stop,
-        None => None,
-    };
-    if let Some(Stop::Typed | Stop::Monitor) = stop {
-        timeline.make(Entry::Continue(number))?;
-        return Ok(true);
+pub fn go_on(timeline: &mut Timeline, number: u8) -> Result<bool, AllocError>
+    ensures went { IfOk result (λ went. went ≡ may_continue (job_view (machine_of (history timeline.old)).world number)) }
+    ensures happened { OnOk result (history timeline.new ≡ gone_on number (history timeline.old)) }
+{
+    if !may_continue(timeline.machine(), number) {
+        return Ok(false);
     }
-    Ok(false)
+    timeline.make(Entry::Continue(number))?;
+    Ok(true)
 }
 
 /// Starts a job that was not started yet, or continues one that CTRL-C or EXIT 1 stopped.
-pub fn begin(timeline: &mut Timeline, number: u8) -> Result<(), AllocError> {
+pub fn begin(timeline: &mut Timeline, number: u8) -> Result<(), AllocError>
+    ensures { OnOk result (history timeline.new ≡ begun number (history timeline.old)) }
+{
     if is_loaded(timeline.machine(), number) {
-        start(timeline, number)
-    } else {
-        go_on(timeline, number).and(Ok(()))
+        return start(timeline, number);
+    }
+    go_on(timeline, number)?;
+    Ok(())
+}
+
+/// Whether a breakpoint is set for one of the jobs from `first` to `last` and stops each time, and its job stands there.
+fn holds_at_start(machine: &Machine, slot: &Option<Breakpoint>, first: u8, last: u8) -> bool
+    ensures { result ≡ holds_at_start machine.now first last slot.now }
+{
+    match slot {
+        Some(one) => {
+            let is_begun = first <= one.job && one.job <= last && !one.counts();
+            is_begun && stands(machine, one)
+        }
+        None => false,
     }
 }
 
-/// Whether a job stands at its breakpoint, as its condition wants.
-fn stands(machine: &Machine, breakpoint: &Breakpoint) -> bool {
-    let stop = WatchedStop {
-        stop: breakpoint.stop(),
-        stood: false,
-    };
-    stop.is_met(machine, None)
+/// The slot of the first breakpoint at which a job from `first` to `last` stands.
+fn first_at_start(
+    machine: &Machine,
+    slots: &[Option<Breakpoint>],
+    first: u8,
+    last: u8,
+) -> Option<usize>
+    ensures { result ≡ position (holds_at_start machine.now first last) slots.now }
+{
+    for (i, slot) in slots.iter().enumerate() {
+        if holds_at_start(machine, slot, first, last) {
+            return Some(i);
+        }
+    }
+    None
+}
+
+/// Why a run ends at the breakpoint in a slot.
+fn cause_in(slots: &[Option<Breakpoint>], slot: usize) -> Option<Cause>
+    requires { slot < length slots.now }
+    ensures { result ≡ cause_in slots.now slot }
+{
+    // A cause may hold a word: the prover wants its type to be named.
+    let _word: Option<Word> = None;
+    match &slots[slot] {
+        Some(one) => Some(Cause::Breakpoint(slot + 1, one.job, one.address.number())),
+        None => None,
+    }
+}
+
+/// Why a run makes no step where the jobs from `first` to `last` were started or continued just now, and none of them stands at a
+/// breakpoint that does not count: one stands at a breakpoint that counts, or before a call on the lock of `.BREAK LOCK`.
+fn other_cause(
+    timeline: &Timeline,
+    first: u8,
+    last: u8,
+    list: &StopList,
+) -> Result<Option<Cause>, AllocError>
+    ensures { IfOk result (λ cause. ends_for list.now (machine_of (history timeline.now)) false cause ≡ true) }
+{
+    let machine = timeline.machine();
+    for counter in counters_of(timeline, list)?.as_slice() {
+        if counter.ends_start(first, last) {
+            return Ok(counted_cause(machine, list, counter.slot()));
+        }
+    }
+    first_standing(timeline.alloc(), machine, first, last, list)
 }
 
 /// Why a run makes no step where the jobs from `first` to `last` were started or continued just now: one of them stands at a
-/// breakpoint, or before a call on the lock of `.BREAK LOCK`.
+/// breakpoint, or before a call on the lock of `.BREAK LOCK`. The breakpoints that do not count come first, in their order.
 pub fn cause_at_start(
     timeline: &Timeline,
     first: u8,
     last: u8,
     list: &StopList,
-) -> Result<Option<Cause>, AllocError> {
-    let machine = timeline.machine();
-    for (i, breakpoint) in list.breakpoints.iter().enumerate() {
-        if let Some(breakpoint) = breakpoint {
-            let job = breakpoint.job;
-            let is_begun = first <= job && job <= last && !breakpoint.counts();
-            if is_begun && stands(machine, breakpoint) {
-                let (number, address) = (i.saturating_add(1), breakpoint.address);
-                return Ok(Some(Cause::Breakpoint(number, job, address.number())));
-            }
-        }
+) -> Result<Option<Cause>, AllocError>
+    ensures breakpoint { IfOk result (λ cause.
+        IfSome (position (holds_at_start (machine_of (history timeline.now)) first last) list.now.breakpoints)
+        (λ slot. cause ≡ cause_in list.now.breakpoints slot)) }
+    ensures besides { IfOk result (λ cause.
+        position (holds_at_start (machine_of (history timeline.now)) first last) list.now.breakpoints ≡ None
+        → ends_for list.now (machine_of (history timeline.now)) false cause ≡ true) }
+{
+    match first_at_start(timeline.machine(), &list.breakpoints, first, last) {
+        Some(slot) => Ok(cause_in(&list.breakpoints, slot)),
+        None => other_cause(timeline, first, last, list),
     }
-    for counter in counters_of(timeline, list)?.as_slice() {
-        if counter.ends_start(first, last) {
-            return Ok(Some(counter.cause()));
-        }
-    }
-    first_standing(timeline.alloc(), machine, first, last, list)
 }

@@ -1,5 +1,8 @@
 //! Breakpoints that count how often their jobs come to them.
 
+ghost use Rattle.std.specs.Prelude.{◌≡◌, Bool, IfSome, true};
+ghost use Rattle.ddt_moves.specs.OtherEnds.{ends_for, stands};
+
 use crate::replays::Replay;
 use crate::run_stops::Cause;
 use crate::stop_lists::{Breakpoint, StopList};
@@ -11,8 +14,8 @@ use word36::{Address, Word};
 /// A breakpoint that counts, and how often its job came to it: in a step with its tick, or where it was started there.
 #[derive(Clone, Copy)]
 pub struct Counter {
-    /// The number of the breakpoint, from 1.
-    number: usize,
+    /// The slot of the breakpoint, from 0.
+    slot: usize,
     /// Its job.
     job: u8,
     /// Its address.
@@ -31,11 +34,11 @@ pub struct Counter {
 
 impl Counter {
     /// A breakpoint to which no job came yet.
-    fn of(number: usize, breakpoint: &Breakpoint) -> Self {
+    fn of(slot: usize, breakpoint: &Breakpoint) -> Self {
         // A stop may hold a word, of which this has none: the prover wants its type to be named.
         let _word: Option<Word> = None;
         Counter {
-            number,
+            slot,
             job: breakpoint.job,
             address: breakpoint.address,
             times: breakpoint.times,
@@ -76,17 +79,45 @@ impl Counter {
         u64::from(self.times) <= self.visits
     }
 
-    /// Why a run ends that it ends.
-    pub fn cause(&self) -> Cause {
-        // A cause may hold a word: the prover wants its type to be named.
-        let _word: Option<Word> = None;
-        Cause::Breakpoint(self.number, self.job, self.address.number())
+    /// The slot of the breakpoint, from 0.
+    pub fn slot(&self) -> usize {
+        self.slot
     }
 
     /// Whether a run ends before its first step where the jobs from `first` to `last` were started or continued just now: its job
     /// is one of them, stands there as its condition wants, and came there often enough.
     pub fn ends_start(&self, first: u8, last: u8) -> bool {
         first <= self.job && self.job <= last && self.stands && self.is_due()
+    }
+}
+
+/// Whether a job stands at its breakpoint, as its condition wants.
+pub fn stands(machine: &Machine, breakpoint: &Breakpoint) -> bool
+    ensures { result ≡ stands machine.now breakpoint.now }
+{
+    let stop = WatchedStop {
+        stop: breakpoint.stop(),
+        stood: false,
+    };
+    stop.is_met(machine, None)
+}
+
+/// Why a run ends at the breakpoint in a slot, if it is set and counts, and its job stands there.
+pub fn counted_cause(machine: &Machine, list: &StopList, slot: usize) -> Option<Cause>
+    ensures { IfSome result (λ cause. (granted : Bool) → ends_for list.now machine.now granted (Some cause) ≡ true) }
+{
+    // A cause may hold a word: the prover wants its type to be named.
+    let _word: Option<Word> = None;
+    if slot >= list.breakpoints.len() {
+        return None;
+    }
+    let Some(one) = &list.breakpoints[slot] else {
+        return None;
+    };
+    if one.counts() && stands(machine, one) {
+        Some(Cause::Breakpoint(slot + 1, one.job, one.address.number()))
+    } else {
+        None
     }
 }
 
@@ -116,7 +147,7 @@ pub fn counters_of(timeline: &Timeline, list: &StopList) -> Result<Vec<Counter>,
     for (i, slot) in list.breakpoints.iter().enumerate() {
         if let Some(breakpoint) = slot {
             if breakpoint.counts() {
-                counters.push(Counter::of(i.saturating_add(1), breakpoint))?;
+                counters.push(Counter::of(i, breakpoint))?;
             }
         }
     }

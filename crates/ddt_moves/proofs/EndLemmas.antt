@@ -1,0 +1,177 @@
+-- Where a run ends, and why.
+use Rattle.std.specs.Prelude.{◌&&◌, ◌||◌, is_none, is_some, nat_le, not, slice_get}
+use Rattle.std.specs.Option.{IfSome}
+use Rattle.std.proofs.Common.{◌≡◌, ◌≤◌, ◌<◌, ◌+◌, ◌-◌, ◌∙◌, sym, ap, refl, ℕ, zero, suc, Bool, true, false, List, [], ◌∷◌, ◌++◌, replicate}
+use Rattle.std.proofs.Common.{Option, Some, None, arith}
+use Rattle.std.specs.Prelude.{Result, Ok, Err, IfOk}
+use Rattle.std.proofs.lemmas.Bool.{false≢true}
+use Rattle.machine.specs.Machine.{S, after}
+use Rattle.machine.specs.Rounds.{rounds}
+use Rattle.run_notes.specs.Words.{grants_words}
+use Rattle.ddt_timeline.specs.Histories.{History, done, machine_of, one_step}
+use Rattle.ddt_timeline.specs.Timelines.{made, played}
+use Rattle.ddt_timeline.specs.declared.entries.Entry.{Entry}
+use Rattle.ddt_timeline.specs.Runs.{IsRun, some_go_on}
+use Rattle.ddt_timeline.specs.Stops.{met_after}
+use Rattle.ddt_timeline.specs.declared.stops.Run.{Run}
+use Rattle.ddt_timeline.specs.declared.stops.WatchedStop.{WatchedStop}
+use Rattle.ddt_moves.specs.OtherEnds.{ends_for, has_grant_behind, is_grant, lines_behind, seen_by}
+use Rattle.ddt_moves.specs.RunEnds.{IsEnd, IsWatchEnd, stop_behind}
+use Rattle.ddt_moves.specs.RunStops.{cause_at}
+use Rattle.ddt_moves.specs.declared.lock_watch.LockWatch.{LockWatch}
+use Rattle.ddt_moves.specs.declared.run_stops.Cause.{Cause}
+use Rattle.ddt_moves.specs.declared.run_stops.RunStops.{RunStops}
+use Rattle.ddt_moves.specs.declared.runs.RunEnd.{RunEnd}
+use Rattle.ddt_moves.specs.declared.stop_lists.StopList.{StopList}
+use Rattle.ddt_moves.proofs.WatchLemmas.{IsWatched, IsWatchedBy}
+
+-- ---- stops
+
+stop_is : (s : S) (stops : List WatchedStop) (most : ℕ) (ran : Run) → IsRun s stops most ran → (made : ℕ) → made ≡ ran.made
+    → ran.stop ≡ stop_behind stops s made
+stop_is s stops most ran run zero same = run.nothing (sym same)
+stop_is s stops most ran run (suc n) same =
+    let before : ran.made - 1 ≡ n = omega (arith, same) in
+    run.last (omega (arith, same)) ∙ ap (λ (m : ℕ). met_after stops (after (rounds m true) s)) before
+
+none_before : (s : S) (stops : List WatchedStop) (most : ℕ) (ran : Run) → IsRun s stops most ran → (n : ℕ) → n < ran.made
+    → stop_behind stops s n ≡ None
+none_before s stops most ran run zero less = refl
+none_before s stops most ran run (suc n) less = run.none_over n (omega (arith, less))
+
+first_is_cause : (causes : List Cause) (stop : Option ℕ) (cause : Option Cause) → cause ≡ cause_at causes stop
+    → IfSome stop (λ i. cause ≡ slice_get causes i)
+first_is_cause causes (Some i) cause same = same
+first_is_cause causes None cause same = tt
+
+if_none : (stop : Option ℕ) (P : ℕ → Type 0) → stop ≡ None → IfSome stop P
+if_none (Some i) P none = cc
+if_none None P none = tt
+
+-- ---- cuts
+
+cut_parts : (causes : List Cause) (stop : Option ℕ) (watched : Bool) (cause : Option Cause) → watched ≡ false → cause ≡ cause_at causes stop
+    → (is_none stop && not watched) ≡ (is_none stop && is_none cause)
+cut_parts causes (Some i) watched cause quiet same = refl
+cut_parts causes None watched cause quiet same = ap (λ (b : Bool). not b) quiet ∙ sym (ap (λ (o : Option Cause). is_none o) same)
+
+not_cut : (b : Bool) (cause : Option Cause) (d : Bool) → is_some cause ≡ true → false ≡ ((b && is_none cause) && d)
+not_cut false cause d some = refl
+not_cut true (Some cause) d some = refl
+not_cut true None d some = absurd (false≢true some)
+
+no_grant : (stops granted : Bool) → (stops ≡ true → granted ≡ false) → (stops && granted) ≡ false
+no_grant true granted quiet = quiet refl
+no_grant false granted quiet = refl
+
+-- ---- ends
+
+-- a run that a stop ended, or none
+pub end_by_stop : (s : S) (stops : RunStops) (list : StopList) (most : ℕ) (ran : Run) (end : RunEnd)
+    → IsRun s stops.stops.items most ran
+    → IsWatched s list ran
+    → ran.by_watch ≡ false
+    → end.made ≡ ran.made
+    → end.cause ≡ cause_at stops.causes.items ran.stop
+    → end.is_cut ≡ ((is_none ran.stop && not ran.by_watch) && nat_le most ran.made)
+    → IsEnd s stops list most end
+end_by_stop s stops list most ran end run watched quiet made cause cut =
+    let stop : ran.stop ≡ stop_behind stops.stops.items s end.made = stop_is s stops.stops.items most ran run end.made made in
+    let at_none : stop_behind stops.stops.items s end.made ≡ None → end.cause ≡ None =
+    λ none. cause ∙ ap (λ (o : Option ℕ). cause_at stops.causes.items o) (stop ∙ none) in
+    record {
+      few = omega (arith, made, run.most);
+      none_over = λ n less. none_before s stops.stops.items most ran run n (omega (arith, less, made));
+      no_grant_over = λ at_grants n less. watched.none at_grants n (omega (arith, less, made));
+      cause =
+          first_is_cause stops.causes.items (stop_behind stops.stops.items s end.made) end.cause
+          (cause ∙ ap (λ (o : Option ℕ). cause_at stops.causes.items o) stop);
+      besides =
+          λ none.
+          ap
+          (λ (o : Option Cause). ends_for list (after (rounds end.made true) s) (list.grants && has_grant_behind s end.made) o)
+          (at_none none)
+          ∙ ap (λ (b : Bool). not b)
+          (no_grant list.grants (has_grant_behind s end.made)
+          (λ at_grants. ap (λ (n : ℕ). has_grant_behind s n) made ∙ watched.quiet at_grants (stop ∙ none) quiet));
+      cut =
+          cut
+          ∙ ap (λ (b : Bool). b && nat_le most ran.made) (cut_parts stops.causes.items ran.stop ran.by_watch end.cause quiet cause)
+          ∙ ap (λ (o : Option ℕ). (is_none o && is_none end.cause) && nat_le most ran.made) stop
+          ∙ ap (λ (n : ℕ). (is_none (stop_behind stops.stops.items s end.made) && is_none end.cause) && nat_le most n) (sym made);
+      ends =
+          λ less none no_cause.
+          ap (λ (n : ℕ). some_go_on (after (rounds n true) s)) made ∙ run.ends (omega (arith, less, made)) (stop ∙ none) quiet;
+    }
+
+-- a run that its watch ended
+pub end_by_watch : (s : S) (stops : RunStops) (list : StopList) (most : ℕ) (ran : Run) (w : LockWatch) (end : RunEnd)
+    → IsRun s stops.stops.items most ran
+    → IsWatchedBy s list w ran
+    → ran.by_watch ≡ true
+    → IsWatchEnd w ran.made end
+    → IsEnd s stops list most end
+end_by_watch s stops list most ran w end run watched by_watch ended =
+    let stop : ran.stop ≡ stop_behind stops.stops.items s end.made = stop_is s stops.stops.items most ran run end.made ended.made in
+    let none : stop_behind stops.stops.items s end.made ≡ None = sym stop ∙ run.quiet by_watch in
+    let some : is_some end.cause ≡ true =
+    ap (λ (o : Option Cause). is_some o) ended.cause ∙ watched.some by_watch ended.worked ended.some in
+    record {
+      few = omega (arith, ended.made, run.most);
+      none_over = λ n less. none_before s stops.stops.items most ran run n (omega (arith, less, ended.made));
+      no_grant_over = λ at_grants n less. watched.run.none at_grants n (omega (arith, less, ended.made));
+      cause = if_none (stop_behind stops.stops.items s end.made) _ none;
+      besides =
+          λ _.
+          ap
+          (λ (o : Option Cause). ends_for list (after (rounds end.made true) s) (list.grants && has_grant_behind s end.made) o)
+          ended.cause
+          ∙ ap (λ (n : ℕ). ends_for list (after (rounds n true) s) (list.grants && has_grant_behind s n) w.cause) ended.made
+          ∙ watched.cause by_watch ended.worked ended.some;
+      cut =
+          ended.cut ∙ not_cut (is_none (stop_behind stops.stops.items s end.made)) end.cause (nat_le most end.made) some;
+      ends = λ less _ no_cause. absurd (false≢true (sym (ap (λ (o : Option Cause). is_some o) no_cause) ∙ some));
+    }
+
+-- ---- lines on grants
+
+steps_played : (n : ℕ) (s : S) → played (replicate n one_step) s ≡ after (rounds n true) s
+steps_played zero s = refl
+steps_played (suc n) s = steps_played n (after (rounds 1 true) s)
+
+played_append : (xs ys : List Entry) (s : S) → played (xs ++ ys) s ≡ played ys (played xs s)
+played_append [] ys s = refl
+played_append (x ∷ xs) ys s = played_append xs ys (made s x)
+
+machine_behind : (h new : History) (n : ℕ) → new ≡ done h (replicate n one_step) → machine_of new ≡ after (rounds n true) (machine_of h)
+machine_behind h new n same =
+    ap (λ (x : History). machine_of x) same ∙ played_append h.past (replicate n one_step) h.boot ∙ steps_played n (machine_of h)
+
+-- a run that a stop ended, or none, does not end at a grant where no stop holds
+pub not_at_grant : (s : S) (stops : RunStops) (most : ℕ) (ran : Run) (end : RunEnd) (P : Type 0) → IsRun s stops.stops.items most ran
+    → end.made ≡ ran.made
+    → end.cause ≡ cause_at stops.causes.items ran.stop
+    → is_grant end.cause ≡ true
+    → stop_behind stops.stops.items s end.made ≡ None
+    → P
+not_at_grant s stops most ran end P run made cause is none =
+    let stop : ran.stop ≡ stop_behind stops.stops.items s end.made = stop_is s stops.stops.items most ran run end.made made in
+    let no_cause : end.cause ≡ None = cause ∙ ap (λ (o : Option ℕ). cause_at stops.causes.items o) (stop ∙ none) in
+    absurd (false≢true (sym (ap (λ (o : Option Cause). is_grant o) no_cause) ∙ is))
+
+-- the lines on what was granted behind a run that its watch ended
+pub lines_of : (h new : History) (list : StopList) (ran : Run) (w : LockWatch) (end : RunEnd) (ticks : ℕ)
+    → new ≡ done h (replicate ran.made one_step)
+    → IsWatchedBy (machine_of h) list w ran
+    → ran.by_watch ≡ true
+    → IsWatchEnd w ran.made end
+    → is_grant end.cause ≡ true
+    → grants_words ticks (seen_by w) (machine_of new).world.requests ≡ lines_behind ticks (machine_of h) end.made
+lines_of h new list ran w end ticks happened watched by_watch ended is =
+    ap (λ (s : S). grants_words ticks (seen_by w) s.world.requests) (machine_behind h new ran.made happened)
+    ∙ watched.lines by_watch ended.worked ended.some (sym (ap (λ (o : Option Cause). is_grant o) ended.cause) ∙ is) ticks
+    ∙ ap (λ (n : ℕ). lines_behind ticks (machine_of h) n) (sym ended.made)
+
+pub both_ok : {T E : Type 0} (r : Result T E) (P Q R : T → Type 0) → IfOk r P → IfOk r Q → ((x : T) → P x → Q x → R x) → IfOk r R
+both_ok (Ok x) P Q R p q then = then x p q
+both_ok (Err e) P Q R p q then = tt

@@ -1,0 +1,42 @@
+-- Where a run ends, and why (this project's profile).
+use Rattle.std.specs.Prelude.{◌≡◌, ◌<◌, ◌≤◌, ◌&&◌, ℕ, zero, suc, true, false, is_none, nat_le, List, Option, Some, None, IfSome, slice_get}
+use Rattle.machine.specs.Machine.{S, after}
+use Rattle.machine.specs.Rounds.{rounds}
+use Rattle.ddt_timeline.specs.Runs.{some_go_on}
+use Rattle.ddt_timeline.specs.Stops.{met_after}
+use Rattle.ddt_timeline.specs.declared.stops.WatchedStop.{WatchedStop}
+use Rattle.ddt_moves.specs.OtherEnds.{ends_for, has_grant_behind}
+use Rattle.ddt_moves.specs.declared.lock_watch.LockWatch.{LockWatch}
+use Rattle.ddt_moves.specs.declared.run_stops.RunStops.{RunStops}
+use Rattle.ddt_moves.specs.declared.runs.RunEnd.{RunEnd}
+use Rattle.ddt_moves.specs.declared.stop_lists.StopList.{StopList}
+
+-- the first of some stops that holds behind the last of so many rounds from a state on; none does where none was made
+abbrev pub stop_behind : List WatchedStop → S → ℕ → Option ℕ
+stop_behind stops s zero = None
+stop_behind stops s (suc n) = met_after stops (after (rounds n true) s)
+
+-- a run from a state on, to some stops and to what the user's stops have besides, of at most so many rounds: behind none of its rounds
+-- but the last did a stop hold, nor was a request granted where runs stop at grants; where a stop holds behind the last one, the
+-- first that does is the cause, and else what is to end it besides; it is cut where it has no cause and made as many rounds as it
+-- may; and where it has none and made fewer, no job goes on
+pub record IsEnd (s : S) (stops : RunStops) (list : StopList) (most : ℕ) (end : RunEnd) : Type 0 where
+  pub few : end.made ≤ most
+  pub none_over : (n : ℕ) → n < end.made → stop_behind stops.stops.items s n ≡ None
+  pub no_grant_over : list.grants ≡ true → (n : ℕ) → n < end.made → has_grant_behind s n ≡ false
+  pub cause : IfSome (stop_behind stops.stops.items s end.made) (λ i. end.cause ≡ slice_get stops.causes.items i)
+  pub besides :
+      stop_behind stops.stops.items s end.made ≡ None
+      → ends_for list (after (rounds end.made true) s) (list.grants && has_grant_behind s end.made) end.cause ≡ true
+  pub cut : end.is_cut ≡ ((is_none (stop_behind stops.stops.items s end.made) && is_none end.cause) && nat_le most end.made)
+  pub ends :
+      end.made < most → stop_behind stops.stops.items s end.made ≡ None → end.cause ≡ None
+      → some_go_on (after (rounds end.made true) s) ≡ false
+
+-- the end of a run of so many rounds that a watch ended
+pub record IsWatchEnd (w : LockWatch) (n : ℕ) (end : RunEnd) : Type 0 where
+  pub some : 1 ≤ n
+  pub worked : w.has_failed ≡ false
+  pub made : end.made ≡ n
+  pub cause : end.cause ≡ w.cause
+  pub cut : end.is_cut ≡ false
