@@ -114,7 +114,7 @@ fn say_meeting(text: &mut PendingText, rule: Rule, want: &Want, met: &Met) {
         }
     }
     say_who_wants(text, met);
-    if rule == Rule::Names {
+    if matches!(rule, Rule::Names) {
         text.say(", is named again");
     }
 }
