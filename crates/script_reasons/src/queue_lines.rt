@@ -1,17 +1,14 @@
 //! A script of `lockmon queue` with the answers to its lines, and with the reason of each refusal and each wait.
-ghost use Rattle.std.specs.Prelude.{◌≡◌, ◌<◌, ◌++◌, ◌∷◌, [], Ok, IfOk, OnOk, IsTrue, map, option_map};
+ghost use Rattle.std.specs.Prelude.{◌≡◌, ◌<◌, ◌++◌, ◌∷◌, [], IfOk, OnOk, map, option_map};
 ghost use Rattle.std.specs.Str.Lines.{lines};
 ghost use Rattle.word36.specs.declared.sizes.TheConstants.{MOST_REQUESTS};
-ghost use Rattle.lock_queue.specs.WellFormed.{is_call};
 ghost use Rattle.queue_script.specs.Borrowed.{owned_command};
-ghost use Rattle.queue_script.specs.QueueScripts.{call_effect, effect_of, unless_busy};
-ghost use Rattle.queue_script.specs.WellFormed.{is_well_formed};
 ghost use Rattle.script_reasons.specs.QueueLines.{explanation_in, line_explanations, explanation_of};
 ghost use Rattle.script_reasons.specs.Explanations.{as_explanation, judged};
 
 use crate::explanations::{Explanation, judge};
 use crate::sentences::say_explanation;
-use lock_bars::{MOST_LINES, ScriptError, ScriptLines};
+use lock_bars::{MOST_LINES, ScriptError, ScriptLines, do_command};
 use lock_queue::{LockCall, LockTable};
 use lock_table::ProgramTable;
 use program_shell::PendingText;
@@ -52,54 +49,24 @@ fn explanation_of<L: LockTable>(
     ensures { IfOk result (λ explanation. option_map as_explanation explanation
         ≡ explanation_of (L.requests table.now) (owned_command command.entry)) }
 {
-    match command {
-        Some(Command::Call(job, _) | Command::Refused(job, _)) if table.is_waiting(job) => {
-            Ok(Some(Explanation::Busy(job)))
-        }
-        Some(Command::Call(job, call)) => explanation_of_call(alloc, table, job, call),
-        Some(Command::Refused(_, refusal) | Command::Status(_, Err(refusal))) => {
-            Ok(Some(Explanation::Wrong(refusal)))
-        }
-        _ => Ok(None),
-    }
-}
-
-/// Makes a job's call, unless the job waits.
-fn call_unless_busy<L: LockTable>(table: &mut L, job: u8, call: &LockCall)
-    requires { IsTrue (is_call job call.now) }
-    ensures { L.requests table.new
-        ≡ (unless_busy (L.requests table.old) job (call_effect L.REQS (L.requests table.old) job (Ok call.now))).requests }
-{
-    if !table.is_waiting(job) {
-        let _ = table.call(job, call);
-    }
-}
-
-/// Does a command. The answer is an ending where the script ends there.
-fn follow<L: LockTable>(
-    table: &mut L,
-    number: usize,
-    command: Option<Command<'_>>,
-) -> Option<Ending>
-    requires { IsTrue (is_well_formed (owned_command command)) }
-    ensures requests { L.requests table.new
-        ≡ (effect_of L.REQS number (L.requests table.old) (owned_command command.entry)).requests }
-    ensures ending { result ≡ (effect_of L.REQS number (L.requests table.old) (owned_command command.entry)).ending }
-{
     let Some(command) = command else {
-        return Some(Ending::Script(number as u128));
+        return Ok(None);
     };
     match command {
-        Command::Quit => return Some(Ending::Done),
-        Command::Call(job, call) => call_unless_busy(table, job, call),
-        Command::Free(job) => table.release(job),
-        Command::Nothing
-        | Command::Refused(_, _)
-        | Command::Status(_, _)
-        | Command::Show
-        | Command::Waits => {}
+        Command::Call(job, call) => {
+            if table.is_waiting(job) {
+                return Ok(Some(Explanation::Busy(job)));
+            }
+            explanation_of_call(alloc, table, job, call)
+        }
+        Command::Refused(job, refusal) => Ok(Some(if table.is_waiting(job) {
+            Explanation::Busy(job)
+        } else {
+            Explanation::Wrong(refusal)
+        })),
+        Command::Status(_, Err(refusal)) => Ok(Some(Explanation::Wrong(refusal))),
+        _ => Ok(None),
     }
-    None
 }
 
 /// Adds a line, with the explanation of its command on a table, and with what `lockmon queue` answers to it.
@@ -116,9 +83,9 @@ fn add_line<L: LockTable>(
     ensures { OnOk result (map explanation_in all.new.items
         ≡ map explanation_in all.old.items ++ explanation_of (L.requests table.now) (owned_command command.entry) ∷ []) }
 {
-    let explanation = explanation_of(alloc, table, command)?;
     let mut answers = Vec::new(alloc);
     let _ = service.take_line(number as u128, line, &mut answers)?;
+    let explanation = explanation_of(alloc, table, command)?;
     all.push(ExplainedLine {
         answers,
         explanation,
@@ -148,7 +115,7 @@ fn watch_lines<L: LockTable>(
         count += 1;
         let command = read_command(&mut room, line);
         add_line(alloc, &mut all, table, service, count, line, command)?;
-        match follow(table, count, command) {
+        match do_command(table, count, command) {
             None => {}
             Some(Ending::Done) => return Ok(all),
             Some(Ending::Script(_) | Ending::Source(_)) => return Err(ScriptError::Line(count)),
@@ -157,15 +124,23 @@ fn watch_lines<L: LockTable>(
     Ok(all)
 }
 
+/// The lines of a script as `explain_lines` gives them, by tables of this kind.
+fn explain_on<L: LockTable>(alloc: Global, script: &[u8]) -> Result<Vec<ExplainedLine>, ScriptError>
+    requires { L.REQS ≡ MOST_REQUESTS }
+    ensures { IfOk result (λ all. map explanation_in all.items ≡ line_explanations script.now) }
+{
+    let mut table = L::new(alloc)?;
+    let mut service = QueueService::new(L::new(alloc)?);
+    watch_lines(alloc, &mut table, &mut service, script)
+}
+
 /// The lines of a script of `lockmon queue`, up to its end, each with the answers that `lockmon queue` gives, and with the
 /// explanation of a refusal or a wait, behind the requests that the lines before it have left. A script is refused at its
 /// first line that is not in the grammar, and where it has more than 10,000 lines.
 pub fn explain_lines(alloc: Global, script: &[u8]) -> Result<Vec<ExplainedLine>, ScriptError>
     ensures { IfOk result (λ all. map explanation_in all.items ≡ line_explanations script.now) }
 {
-    let mut table = ProgramTable::new(alloc)?;
-    let mut service = QueueService::new(ProgramTable::new(alloc)?);
-    watch_lines(alloc, &mut table, &mut service, script)
+    explain_on::<ProgramTable>(alloc, script)
 }
 
 /// Adds the answers to a line, each on a line of its own; behind the first stands the reason, if there is one.
