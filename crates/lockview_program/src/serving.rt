@@ -10,14 +10,13 @@ use fault_text::{NO_ENDASM, Refused, explain};
 use lock_bars::{MOST_LINES, ScriptError, ScriptLines, SourceFault, draw_script};
 use lock_svg::{Along, AsSvg};
 use program_shell::{
-    FAILED, Failure, FailureLines, PendingText, REFUSED, USAGE, file_error_text, read_whole,
+    FAILED, Failure, FailureLines, PendingText, REFUSED, USAGE, read_file, read_input,
     refuse_arguments, report_failure, report_to, write_output,
 };
 use script_io::{ByteIn, ByteOut, LINE_LENGTH};
 use script_reasons::explain_script;
 use std::alloc::Global;
 use std::convert::AsStr;
-use std::fs;
 use std::rt::Files;
 
 /// The lines by which the program reports a failure.
@@ -142,42 +141,6 @@ fn status_of(error: ScriptError) -> u8 {
     }
 }
 
-/// The bytes of the script's file; or, where it cannot be read, the exit status for that, which is reported.
-fn read_file<F: Files + AllocGlobal, E: ByteOut>(
-    rt: &F,
-    file: &str,
-    errors: &mut E,
-) -> Result<Vec<u8>, u8>
-    requires { E.has_failed errors.old ≡ false }
-    ensures { IfOk result (λ _. E.has_failed errors.new ≡ false) }
-{
-    let alloc = rt.alloc();
-    let error = match fs::read(rt, file) {
-        Ok(script) => return Ok(script),
-        Err(error) => error,
-    };
-    match file_error_text(alloc, "lockview: ", file, error) {
-        Ok(text) => Err(report_to(errors, text.as_str().as_bytes(), FAILED)),
-        Err(_) => Err(report_failure(errors, &FAILURE_LINES, Failure::Memory)),
-    }
-}
-
-/// The bytes of the reader; or, where it fails, the exit status for that, which is reported.
-fn read_input<R: ByteIn, E: ByteOut>(
-    alloc: Global,
-    reader: &mut R,
-    errors: &mut E,
-) -> Result<Vec<u8>, u8>
-    requires reader_sound { R.has_failed reader.old ≡ false }
-    requires errors_sound { E.has_failed errors.old ≡ false }
-    ensures { IfOk result (λ _. E.has_failed errors.new ≡ false) }
-{
-    match read_whole(alloc, reader, MOST_BYTES) {
-        Ok(script) => Ok(script),
-        Err(failure) => Err(report_failure(errors, &FAILURE_LINES, failure)),
-    }
-}
-
 /// The script of the file, if one is named, or of the reader; or the exit status where it cannot be read, which is
 /// reported.
 fn read_script<F: Files + AllocGlobal, R: ByteIn, E: ByteOut>(
@@ -191,8 +154,8 @@ fn read_script<F: Files + AllocGlobal, R: ByteIn, E: ByteOut>(
     ensures { IfOk result (λ _. E.has_failed errors.new ≡ false) }
 {
     match file {
-        Some(file) => read_file(rt, file.as_str(), errors),
-        None => read_input(rt.alloc(), reader, errors),
+        Some(file) => read_file(rt, "lockview: ", file.as_str(), &FAILURE_LINES, errors),
+        None => read_input(rt.alloc(), reader, MOST_BYTES, &FAILURE_LINES, errors),
     }
 }
 
