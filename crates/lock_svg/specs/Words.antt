@@ -1,5 +1,6 @@
 -- What a picture says of a bar, and in which colour it shows it (this project's profile).
-use Rattle.std.specs.Prelude.{ℕ, ◌-◌, ◌++◌, ◌==◌, Bool, List, [], Option, Some, None, codes, decimal, length, if◌then◌else◌, slice_get, unwrap_or}
+use Rattle.std.specs.Prelude.{ℕ, ◌-◌, ◌++◌, ◌==◌, Bool, List, [], Option, Some, None, codes, decimal, length, if◌then◌else◌}
+use Rattle.std.specs.Prelude.{slice_get, unwrap_or}
 use Rattle.lock_bars.specs.Columns.{column_text}
 use Rattle.lock_bars.specs.declared.bars.Bar.{Bar}
 use Rattle.lock_bars.specs.declared.columns.Column.{Column}
