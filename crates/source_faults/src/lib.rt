@@ -8,6 +8,7 @@ mod fault;
 mod labels;
 mod lines;
 mod located;
+mod of_macro;
 mod operands;
 mod quoted;
 mod statements;

@@ -98,7 +98,8 @@ fn unknown_name<'a>(line: &'a [u8], source: &'a [u8]) -> Fault<'a> {
 
 const ONE_OF_SEVERAL: &str = "or a name behind it is not defined";
 
-const NO_NAME: &str = "is not defined, and is no operation of this assembler";
+/// The sentence for a name that is a whole statement.
+pub const NO_NAME: &str = "is not defined, and is no operation of this assembler";
 
 /// The fault of a line with a value that does not fit, of octal numbers or, where all of these fit, of decimal ones: the first
 /// value that does not fit, or else the first of which that is not known.

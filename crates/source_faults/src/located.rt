@@ -3,6 +3,7 @@ ghost use Rattle.std.specs.Prelude.{◌≤◌, ◌+◌, IfOk, length};
 
 use crate::fault::{Fault, Reason};
 use crate::lines::fault_of;
+use crate::of_macro::{TAKEN_BY_MACRO, is_of_macro};
 use crate::operands::{BIT_NUMBER, LITERAL_IN_LITERAL, NOT_OCTAL, OPEN_LITERAL, POINTED_NUMBER};
 use std::alloc::{AllocError, Global};
 
@@ -85,7 +86,8 @@ pub fn locate(alloc: Global, code: u8, line: &[u8], source: &[u8]) -> Result<Loc
     })
 }
 
-/// Says what is wrong with such a line, and in which column if that is known. It fails only where there is no memory.
+/// Says what is wrong with such a line, in which column if that is known, and where `macro` takes it that it does. It fails
+/// only where there is no memory. Who asks has no other assembler: others call `locate`.
 pub fn explain_in(
     alloc: Global,
     code: u8,
@@ -93,7 +95,12 @@ pub fn explain_in(
     source: &[u8],
 ) -> Result<String, AllocError> {
     let fault = fault_of(line, code, source);
-    format!(in alloc; "{fault}")
+    let hint = if is_of_macro(line, &fault) {
+        TAKEN_BY_MACRO
+    } else {
+        ""
+    };
+    format!(in alloc; "{fault}{hint}")
 }
 
 /// `explain_in` where the rest of the source is not at hand.

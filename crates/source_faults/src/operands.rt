@@ -72,12 +72,15 @@ fn not_of(radix: u8) -> &'static str {
     }
 }
 
+/// What has to follow `^`.
+pub const MARK: &str = "\"D\" or \"O\" and a number";
+
 /// Reads what follows `^`.
 fn read_marked<'a>(cursor: &mut Cursor<'a>) -> Result<i64, Fault<'a>> {
     let radix = match cursor.head() {
         Some(b'D' | b'd') => 10,
         Some(b'O' | b'o') => 8,
-        _ => return Err(cursor.expected("\"D\" or \"O\" and a number")),
+        _ => return Err(cursor.expected(MARK)),
     };
     cursor.advance(1);
     read_number(cursor, radix, "a number")

@@ -64,7 +64,7 @@ static FORMS: [(&str, Form); 14] = [
 ];
 
 /// The first six characters of a name in upper case, and how many there are.
-fn folded(name: &[u8]) -> ([u8; 6], usize)
+pub fn folded(name: &[u8]) -> ([u8; 6], usize)
     ensures { result.1 ≤ 6 }
 {
     let mut characters = [b' '; 6];
@@ -137,12 +137,15 @@ fn read_body<'a>(cursor: &mut Cursor<'a>) -> Result<(), Fault<'a>> {
     read_named_value(name, cursor)
 }
 
+/// The sentence for a name with operands that is no operation.
+pub const NO_OPERATION: &str = "is not an operation of this assembler";
+
 /// Reads a value that begins with a name, which must not look like an operation's.
 fn read_named_value<'a>(name: &'a [u8], cursor: &mut Cursor<'a>) -> Result<(), Fault<'a>> {
     let column = cursor.column();
     read_words(cursor)?;
     if is_call_like(cursor) {
-        let reason = Reason::Is(name, "is not an operation of this assembler");
+        let reason = Reason::Is(name, NO_OPERATION);
         return Err(Fault::at(column, reason));
     }
     Ok(())
