@@ -157,6 +157,12 @@ pub plain-end : (items : List ℕ) (n : ℕ) → (n ≡ 0 → ⊥) → n ≡ len
 plain-end items n some end named =
     alone-end items n (Spelled (take n items)) end (characters-apart (take n items) named) (characters-name items n some (omega arith) named)
 
+pub plain-all : (items : List ℕ) → 0 < length items → list_all is_name_character items ≡ true
+    → IsFirstLock (parts 32 items) (Some (record { name = Spelled items; options = no_options })) []
+plain-all items some named =
+    let whole : take (length items) items ≡ items = take_all (length items) items (omega arith) in
+    rw whole at (plain-end items (length items) (λ e. omega arith) refl (rw whole named))
+
 pub plain-more : (items : List ℕ) (n : ℕ) → (n ≡ 0 → ⊥) → n < length items → get_or items n 0 ≡ 32 → list_all is_name_character (take n items) ≡ true
     → IsFirstLock (parts 32 items) (Some (record { name = Spelled (take n items); options = no_options }))
     (parts 32 (take (length items - (n + 1)) (drop (n + 1) items)))

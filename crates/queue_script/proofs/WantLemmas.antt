@@ -297,3 +297,28 @@ gathers-none job use_ all old rest count wants refusal g first =
     (ap (option_map (call_wants job use_))
     (g.read ∙ ap (λ l. option_map (λ ls. g.seen ++ ls) (locks_of l)) first.1
     ∙ ap (option_map (λ ls. g.seen ++ ls)) (locks_of-none first.0 rest first.2)))
+
+-- a name alone
+pub gathers-one : (job : ℕ) (use_ : BlockUse) (items : List (List ℕ)) (text : List ℕ) (wants next : List Want) (after : ArrayVec Want) (r : StoreOutcome)
+    → IsFirstLock items (Some (record { name = Spelled text; options = no_options })) []
+    → StoresWant (plain_want text) 0 wants next r → (r ≡ outcome.Stored → after.items ≡ take 1 next)
+    → filled r after ≡ option_map (call_wants job use_) (locks_of items)
+gathers-one job use_ items text wants next after r first stores left = by (plain_want text) refl
+  where
+    lock : Lock
+    lock = record { name = Spelled text; options = no_options }
+
+    start : Gathers job use_ items items 0 (take 0 wants) None
+    start = gathers-start job use_ items wants
+
+    by : (want : Result Want Refusal) → plain_want text ≡ want → filled r after ≡ option_map (call_wants job use_) (locks_of items)
+    by (Ok want) is =
+        let s : StoresWant (Ok want) 0 wants next r = subst (λ w. StoresWant w 0 wants next r) is stores in
+        let more =
+        gathers-want job use_ items items [] first.0 lock 0 1 (take 0 wants) (take 1 next) want None start first.1 first.2 refl
+        (want_of_plain job use_ text ∙ is) s.1 in
+        ap (λ o. filled o after) s.0 ∙ gathers-end job use_ items [] 1 (take 1 next) after more refl (omega arith) (omega arith) (left s.0)
+    by (Err why) is =
+        let s : StoresWant (Err why) 0 wants next r = subst (λ w. StoresWant w 0 wants next r) is stores in
+        gathers-refused job use_ items items [] first.0 lock 0 (take 0 wants) after why r start (omega arith) first.1 first.2
+        (want_of_plain job use_ text ∙ is) s.0

@@ -1,7 +1,8 @@
 -- The locks of a command, and what a call wants of them (this project's profile).
 use Rattle.std.specs.Prelude.{◌≡◌, ◌≤◌, take, ◌==◌, ◌&&◌, ◌||◌, ◌++◌, ◌+◌}
-use Rattle.std.specs.Prelude.{ℕ, Bool, false, List, [], ◌∷◌, length, Option, Some, None, Result}
+use Rattle.std.specs.Prelude.{ℕ, Bool, true, false, List, [], ◌∷◌, length, Option, Some, None, IfSome, Result}
 use Rattle.std.specs.Prelude.{Ok, Err, if◌then◌else◌, option_and_then, option_map, unwrap_or, nat_le}
+use Rattle.std.specs.Borrow.{Bor}
 use Rattle.std.specs.List.{list_all}
 use Rattle.arrayvec.specs.ArrayVec.{ArrayVec}
 use Rattle.word36.specs.declared.sizes.TheConstants.{LOCKS_A_CALL, NAME_LENGTH}
@@ -66,6 +67,11 @@ locks_of (item ∷ more) = option_and_then (λ lock. option_map (λ locks. lock 
 -- the first of some items spells this lock, or none, and these are behind it
 abbrev pub IsFirstLock : List (List ℕ) → Option Lock → List (List ℕ) → Type 0
 IsFirstLock items lock others = (item : List ℕ) × (items ≡ item ∷ others) × (lock_of item ≡ lock)
+
+-- some items are the parts of this text, where it is known, and so many characters at its front can belong to a name
+abbrev pub IsNameFront : List (List ℕ) → Option (Bor (List ℕ)) → ℕ → Type 0
+IsNameFront items text n =
+    IfSome text (λ t. (items ≡ parts 32 t.now) × (n ≤ length t.now) × (list_all is_name_character (take n t.now) ≡ true))
 
 -- ---- what a call wants of a lock
 

@@ -4,7 +4,7 @@ ghost use Rattle.std.specs.Prelude.{true, [], length, take, ◌^◌, None, Some,
 ghost use Rattle.std.specs.List.{list_all};
 ghost use Rattle.script_io.specs.Numbers.{is_digit, parts, texts_in};
 ghost use Rattle.queue_script.specs.Locks.{is_name_character, user_code, name_of_characters, name_of, lock_of, want_of_name};
-ghost use Rattle.queue_script.specs.Locks.{IsFirstLock, plain_want, key_of, terms_of, StoresWant, Stores, StoresFirst};
+ghost use Rattle.queue_script.specs.Locks.{IsFirstLock, IsNameFront, plain_want, key_of, terms_of, StoresWant, Stores, StoresFirst};
 ghost use Rattle.queue_script.specs.Options.{is_option_character};
 ghost use Rattle.queue_script.specs.declared.locks.LockName.{LockName};
 ghost use Rattle.queue_script.specs.declared.locks.LockName.TheVariants.{Spelled, Coded};
@@ -133,7 +133,7 @@ fn read_code(digits: &[u8]) -> Option<u64>
 
 /// The name of these characters, which may be too long for a lock.
 #[inline(always)]
-fn spelled(text: &[u8]) -> Characters<'_>
+pub fn spelled(text: &[u8]) -> Characters<'_>
     requires named { list_all is_name_character text.now ≡ true }
     requires some { 0 < length text.now }
     ensures { result ≡ text.now }
@@ -291,7 +291,7 @@ fn store_spelled(
 /// Stores the want of a lock whose name is spelled in characters and has no options, of any call; or tells why it is
 /// refused.
 #[inline(always)]
-fn store_plain(name: Characters<'_>, wants: &mut Wants, position: usize) -> StoreOutcome
+pub fn store_plain(name: Characters<'_>, wants: &mut Wants, position: usize) -> StoreOutcome
     requires within { position ≤ array_vec_len wants.old }
     requires room { position < LOCKS_A_CALL }
     ensures { StoresWant (plain_want name.entry) position wants.old.items wants.new.items result }
@@ -453,24 +453,36 @@ fn take_with_options<'a>(
     take_next(items, job, block_use, wants, position)
 }
 
-/// Takes the first of some items, and stores what a call wants of its lock; most locks are read in one pass.
+/// The text whose parts some items are, and how many characters at its front can belong to a name.
 #[inline(always)]
-pub fn take_first(
-    items: &mut Parts<'_>,
+pub fn name_front<'a>(items: &Parts<'a>) -> (Option<&'a [u8]>, usize)
+    ensures { IsNameFront items.now result.0 result.1 }
+{
+    match items.left() {
+        Some(text) => (Some(text), name_length(text)),
+        None => (None, 0),
+    }
+}
+
+/// Takes the first of the items of a text, and stores what a call wants of its lock; most locks are read in one pass. `count`
+/// is how many characters at the front can belong to a name.
+#[inline(always)]
+fn take_in_text<'a>(
+    items: &mut Parts<'a>,
+    text: &'a [u8],
+    count: usize,
     job: u8,
     block_use: BlockUse,
     wants: &mut Wants,
     position: usize,
 ) -> StoreOutcome
-    requires some { items.old ≢ [] }
+    requires text { items.old ≡ parts 32 text.now }
+    requires front { count ≤ length text.now }
+    requires named { list_all is_name_character (take count text.now) ≡ true }
     requires within { position ≤ array_vec_len wants.old }
     requires room { position < LOCKS_A_CALL }
     ensures { StoresFirst job block_use items.old items.new position wants.old.items wants.new.items result }
 {
-    let Some(text) = items.left() else {
-        return take_next(items, job, block_use, wants, position);
-    };
-    let count = name_length(text);
     if count > 0 {
         let name = &text[..count];
         if count == text.len() {
@@ -483,4 +495,27 @@ pub fn take_first(
         }
     }
     take_with_options(items, text, count, job, block_use, wants, position)
+}
+
+/// Takes the first of some items, and stores what a call wants of its lock. `text` and `count` are what `name_front` tells.
+#[inline(always)]
+pub fn take_first<'a>(
+    items: &mut Parts<'a>,
+    text: Option<&'a [u8]>,
+    count: usize,
+    job: u8,
+    block_use: BlockUse,
+    wants: &mut Wants,
+    position: usize,
+) -> StoreOutcome
+    requires some { items.old ≢ [] }
+    requires front { IsNameFront items.old text count }
+    requires within { position ≤ array_vec_len wants.old }
+    requires room { position < LOCKS_A_CALL }
+    ensures { StoresFirst job block_use items.old items.new position wants.old.items wants.new.items result }
+{
+    match text {
+        Some(text) => take_in_text(items, text, count, job, block_use, wants, position),
+        None => take_next(items, job, block_use, wants, position),
+    }
 }

@@ -1,5 +1,5 @@
 //! The options of a lock.
-ghost use Rattle.std.specs.Prelude.{◌≡◌, ◌^◌, ◌<◌, ◌≤◌, true, length, take, IfSome, Some, MatchOption, None};
+ghost use Rattle.std.specs.Prelude.{◌≡◌, ◌^◌, ◌<◌, ◌≤◌, true, false, length, take, IfSome, Some, MatchOption, None};
 ghost use Rattle.std.specs.List.{list_all};
 ghost use Rattle.script_io.specs.Numbers.{front, IsFront, parts, texts_in};
 ghost use Rattle.queue_script.specs.Locks.{terms_of};
@@ -145,40 +145,22 @@ impl Options {
         }
     }
 
-    /// These and one more; None if one of its kind is among them.
-    fn with(self, option: LockOption) -> Option<Self>
-        ensures { result ≡ with_option self option }
+    /// Adds one more; false if one of its kind is among them.
+    #[inline(always)]
+    fn add(&mut self, option: LockOption) -> bool
+        ensures added { result ≡ true → with_option self.old option ≡ Some self.new }
+        ensures refused { result ≡ false → with_option self.old option ≡ None }
     {
         match option {
-            LockOption::Shared if !self.shared => Some(Options {
-                shared: true,
-                ..self
-            }),
-            LockOption::Group(group) if self.group.is_none() => {
-                Some(Options {
-                    group: Some(group),
-                    ..self
-                })
-            }
-            LockOption::Bypass if !self.bypass => Some(Options {
-                bypass: true,
-                ..self
-            }),
-            LockOption::Level(level) if self.level.is_none() => {
-                Some(Options {
-                    level: Some(level),
-                    ..self
-                })
-            }
-            LockOption::Pool(pool) if self.pool.is_none() => {
-                Some(Options {
-                    pool: Some(pool),
-                    ..self
-                })
-            }
-            LockOption::Own if !self.own => Some(Options { own: true, ..self }),
-            _ => None,
+            LockOption::Shared if !self.shared => self.shared = true,
+            LockOption::Group(group) if self.group.is_none() => self.group = Some(group),
+            LockOption::Bypass if !self.bypass => self.bypass = true,
+            LockOption::Level(level) if self.level.is_none() => self.level = Some(level),
+            LockOption::Pool(pool) if self.pool.is_none() => self.pool = Some(pool),
+            LockOption::Own if !self.own => self.own = true,
+            _ => return false,
         }
+        true
     }
 }
 
@@ -189,7 +171,9 @@ pub fn read_options(mut texts: Parts<'_>) -> Option<Options>
 {
     let mut options = Options::none();
     while let Some(text) = texts.next() {
-        options = options.with(read_option(text)?)?;
+        if !options.add(read_option(text)?) {
+            return None;
+        }
     }
     Some(options)
 }
@@ -258,7 +242,9 @@ pub fn front_options(text: &[u8]) -> Option<(Options, Option<&[u8]>)>
     let mut rest = text;
     loop {
         let (option, length) = front_option(rest)?;
-        options = options.with(option)?;
+        if !options.add(option) {
+            return None;
+        }
         if length == rest.len() {
             return Some((options, None));
         }

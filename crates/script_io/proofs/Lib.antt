@@ -4,3 +4,4 @@ pub mod LineLemmas
 pub mod NumberLemmas
 pub mod FrontLemmas
 pub mod AsciiLemmas
+pub mod OctalLemmas

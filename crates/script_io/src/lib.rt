@@ -29,7 +29,7 @@ pub use line_sessions::{LINE_LENGTH, LineService, LineSession};
 pub use numbers::{digit_number, number};
 pub use parts::Parts;
 pub use ports::{ByteIn, ByteOut, Failed, write_all};
-pub use print::{push_decimal, push_escaped, push_word};
+pub use print::{half_digits, push_decimal, push_escaped, push_word};
 pub use serving::serve_session;
 pub use sessions::Session;
 pub use test_ports::{TestIn, TestOut};

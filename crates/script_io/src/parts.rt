@@ -131,10 +131,12 @@ fn split_number(most: u64, text: &[u8], separator: u8) -> Option<(u64, Option<&[
         None => {}
     }
     let mut value = 0;
-    for (i, byte) in text.iter().enumerate() {
+    let mut i = 0;
+    'digits: while i < text.len() {
+        let byte = text[i];
         let digit = byte.wrapping_sub(b'0');
-        if digit >= 10 || *byte == separator {
-            if *byte != separator {
+        if digit >= 10 || byte == separator {
+            if byte != separator {
                 return None;
             }
             if i == 0 {
@@ -146,6 +148,7 @@ fn split_number(most: u64, text: &[u8], separator: u8) -> Option<(u64, Option<&[
         if value > most {
             return None;
         }
+        i += 1;
     }
     if text.is_empty() {
         return None;

@@ -1,13 +1,13 @@
 use Rattle.std.proofs.Common.{false, true, refl, ◌≡◌, ◌<◌, ◌+◌, min, arith}
 use Rattle.queue_script.proofs.WantLemmas.{wanted, wanted-not, no_lock, gathers-start, gathers-want, gathers-refused, gathers-full, gathers-none}
 use Rattle.queue_script.proofs.WantLemmas.{gathers-end, gathers-nothing}
-use Rattle.queue_script.proofs.call_wants.read_wants.Goals as goal
+use Rattle.queue_script.proofs.call_wants.read_all.Goals as goal
 
 never : false ≡ true → ⊥
 never h = cc
 
 pub items-init : goal.items-init
-items-init c = record { gathers = gathers-start _ _ _ c.args.wants.now.items; room = omega arith; within = omega arith }
+items-init c = record { gathers = gathers-start _ _ _ c.args.wants.now.items; room = omega arith; within = omega arith; front = c.requires }
 
 pub returns-then-count-eq-LOCKS_A_CALL : goal.returns-then-count-eq-LOCKS_A_CALL
 returns-then-count-eq-LOCKS_A_CALL c =
@@ -24,6 +24,7 @@ items-preserved c =
       gathers = gathers-want _ _ _ _ _ _ _ _ _ _ _ _ _ c.items.invariant.gathers w.first.1 w.first.2 counted w.is w.behind;
       room = omega (arith, few);
       within = w.long;
+      front = c.name_front-front.ensures;
     }
 
 pub returns-in-Refused : goal.returns-in-Refused
