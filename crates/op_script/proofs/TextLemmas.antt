@@ -1,9 +1,12 @@
 -- Lemmas on texts.
 use Rattle.std.proofs.Common.{◌≡◌, ◌<◌, ◌≤◌, ◌+◌, ◌-◌, ◌++◌, ◌∙◌, ℕ, zero, suc, List, [], ◌∷◌, Option, Some, None, length, drop, take}
-use Rattle.std.proofs.Common.{refl, ap, sym, arith, append_assoc, append-nil, length-append, length-drop}
+use Rattle.std.proofs.Common.{refl, ap, sym, arith, slice_set, slice_index_or, append_assoc, append-nil, length-append, length-drop}
 use Rattle.std.specs.Prelude.{option_map, option_and_then}
-use Rattle.std.proofs.lemmas.List.{take_rest}
-use Rattle.op_script.specs.Texts.{first_spelled, spelled_behind, characters_of}
+use Rattle.std.proofs.lemmas.Grind.{common_steps}
+use Rattle.std.proofs.lemmas.List.{take_rest, take-append-drop}
+use Rattle.std.specs.List.{flat_map}
+use Rattle.lock_queue.proofs.Lists.{flat_map-append}
+use Rattle.op_script.specs.Texts.{first_spelled, spelled_behind, characters_of, printed_character}
 use Rattle.op_script.specs.declared.texts.Spelled.{Spelled}
 
 -- what was read before is passed over
@@ -75,3 +78,26 @@ reads-within done done' rest more first c n most is pushed some short room =
   where
     add-one-length : suc (length more) ≡ length more + 1
     add-one-length = omega arith
+
+-- one more of some numbers is copied
+pub copied-more : (numbers characters : List ℕ) (i d : ℕ) → i < length numbers → i < length characters
+    → take i numbers ≡ take i characters
+    → take (i + 1) (slice_set numbers i (slice_index_or characters i d)) ≡ take (i + 1) characters
+copied-more numbers characters i d = grind (arith, common_steps)
+
+-- one more of some characters stands for itself
+pub plain-more : (characters : List ℕ) (i d : ℕ) → i < length characters
+    → flat_map printed_character (take i characters) ≡ take i characters
+    → printed_character (slice_index_or characters i d) ≡ slice_index_or characters i d ∷ []
+    → flat_map printed_character (take (i + 1) characters) ≡ take (i + 1) characters
+plain-more characters i d = grind (arith, common_steps)
+
+-- what the first characters spell is written, before that of the rest
+pub written-before : (done now rest out : List ℕ) (n : ℕ) → now ≡ done ++ flat_map printed_character (take n rest)
+    → done ++ flat_map printed_character rest ≡ out → now ++ flat_map printed_character (drop n rest) ≡ out
+written-before done now rest out n is all =
+    ap (λ l. l ++ flat_map printed_character (drop n rest)) is
+    ∙ append_assoc done (flat_map printed_character (take n rest)) (flat_map printed_character (drop n rest))
+    ∙ ap (λ l. done ++ l) (sym (flat_map-append printed_character (take n rest) (drop n rest)))
+    ∙ ap (λ l. done ++ flat_map printed_character l) (take-append-drop n rest)
+    ∙ all

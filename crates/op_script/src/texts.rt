@@ -1,5 +1,5 @@
 //! Texts that are typed at a line, and those that are taken from it.
-ghost use Rattle.std.specs.Prelude.{◌≡◌, ◌≤◌, ◌<◌, ◌+◌, ◌++◌, ◌∷◌, [], length, IfSome, OnOk};
+ghost use Rattle.std.specs.Prelude.{◌≡◌, ◌≤◌, ◌<◌, ◌+◌, ◌++◌, ◌∷◌, [], length, IfSome, IsTrue, OnOk};
 ghost use Rattle.std.specs.List.{flat_map};
 ghost use Rattle.op_script.specs.Texts.{is_octal, escape, octal_escape, first_spelled, characters_of, printed_character};
 
@@ -8,6 +8,9 @@ use script_io::{LINE_LENGTH, push_escaped};
 use std::alloc::AllocError;
 use std::marker::Model;
 use tty_lines::Char7;
+
+/// So many characters are looked at, and written, at once.
+const AT_ONCE: usize = 16;
 
 /// The characters that are typed by one command.
 #[derive(Drop)]
@@ -147,12 +150,48 @@ fn push_character(out: &mut Vec<u8>, character: u8) -> Result<(), AllocError>
     Ok(())
 }
 
-/// Adds characters as a script spells them.
-pub fn push_text(out: &mut Vec<u8>, text: &[Char7]) -> Result<(), AllocError>
+/// Whether a character stands for itself in a script.
+fn is_plain(character: Char7) -> bool
+    ensures { IsTrue result → (printed_character character ≡ character ∷ []) }
+{
+    let number = character.number();
+    (number > 0o37) & (number != b'\\') & (number != 0o177)
+}
+
+/// The numbers of some characters, if each of them stands for itself. None ends the loop early, so it takes few steps.
+fn plain_numbers(characters: &[Char7; AT_ONCE]) -> Option<[u8; AT_ONCE]>
+    ensures { IfSome result (λ numbers. flat_map printed_character characters.now ≡ numbers) }
+{
+    let mut numbers = [0; AT_ONCE];
+    let mut are_plain = true;
+    for i in 0..AT_ONCE {
+        are_plain &= is_plain(characters[i]);
+        numbers[i] = characters[i].number();
+    }
+    are_plain.then_some(numbers)
+}
+
+/// Adds characters as a script spells them, one after another.
+fn push_each(out: &mut Vec<u8>, text: &[Char7]) -> Result<(), AllocError>
     ensures { OnOk result (out.new.items ≡ out.old.items ++ flat_map printed_character text.now) }
 {
     for character in text {
         push_character(out, character.number())?;
     }
     Ok(())
+}
+
+/// Adds characters as a script spells them. Those that stand for themselves are copied several at once.
+pub fn push_text(out: &mut Vec<u8>, text: &[Char7]) -> Result<(), AllocError>
+    ensures { OnOk result (out.new.items ≡ out.old.items ++ flat_map printed_character text.now) }
+{
+    let mut rest = text;
+    while let Some((first, more)) = rest.split_first_chunk() {
+        match plain_numbers(first) {
+            Some(numbers) => out.extend_from_slice(&numbers)?,
+            None => push_each(out, first)?,
+        }
+        rest = more;
+    }
+    push_each(out, rest)
 }

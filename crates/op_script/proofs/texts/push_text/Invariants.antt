@@ -1,9 +1,11 @@
-use Rattle.std.proofs.Common.{◌≡◌, ◌++◌, drop}
+use Rattle.std.proofs.Common.{◌≡◌, ◌++◌, length}
 use Rattle.std.specs.List.{flat_map}
 use Rattle.op_script.specs.Texts.{printed_character}
 use Rattle.op_script.proofs.texts.push_text.Given as goal
 
-abbrev pub invariant-loop-character : goal.invariant-loop-character
-invariant-loop-character l =
-    l.out.items ++ flat_map printed_character (drop l.character-index l.text)
-    ≡ l.initial.out.items ++ flat_map printed_character l.text
+abbrev pub invariant-loop-first : goal.invariant-loop-first
+invariant-loop-first l =
+    l.out.items ++ flat_map printed_character l.rest ≡ l.initial.out.items ++ flat_map printed_character l.text
+
+abbrev pub decreases-loop-first : goal.decreases-loop-first
+decreases-loop-first l = length l.rest
