@@ -17,7 +17,7 @@ fn main(rt: HostRuntime) -> ExitCode {
     let mut reader = HostIn::new(rt.stdin());
     let mut writer = HostOut::new(rt.stdout());
     let is_wanted = rt.stderr().is_terminal();
-    let mut watch = Progress::new(rt.alloc(), HostOut::new(rt.stderr()), is_wanted);
+    let mut watch = Progress::new(HostOut::new(rt.stderr()), is_wanted);
     let status = program(
         &rt,
         arguments.as_slice(),

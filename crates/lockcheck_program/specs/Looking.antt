@@ -5,12 +5,18 @@ use Rattle.lockcheck_program.specs.declared.progress.TheConstants.{EACH}
 
 -- so many states are met, and so many of these done
 abbrev pub progress_line : ℕ → ℕ → List ℕ
-progress_line met done = codes "lockcheck: " ++ decimal met ++ codes " states met, " ++ decimal (met - done) ++ codes " waiting\n"
+progress_line met done =
+    codes "lockcheck: " ++ (decimal met ++ (codes " states met, " ++ (decimal (met - done) ++ codes " waiting\n")))
 
--- a port, from t to t', got nothing; or it got a line, or a beginning of it
-abbrev pub Tells : Bool → Option (List ℕ) → Option (List ℕ) → List ℕ → Type 0
-Tells true t t' line = t' ≡ t
-Tells false t t' line = (n : ℕ) × Appends t t' (take n line)
+-- a port, from t to t', got all of a line; or a beginning of it, behind which it failed
+abbrev pub GetsAll : Option (List ℕ) → Option (List ℕ) → Bool → List ℕ → Type 0
+GetsAll t t' false line = Appends t t' line
+GetsAll t t' true line = (n : ℕ) × Appends t t' (take n line)
+
+-- a port got nothing where the observer is silent, and else a line, all of it unless the port failed
+abbrev pub Tells : Bool → Option (List ℕ) → Option (List ℕ) → Bool → List ℕ → Type 0
+Tells true t t' failed line = t' ≡ t
+Tells false t t' failed line = GetsAll t t' failed line
 
 -- nothing is reported where the port is closed, and while fewer states are met than the next line waits for
 abbrev pub is_silent : Bool → ℕ → ℕ → Bool
