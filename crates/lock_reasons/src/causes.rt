@@ -1,5 +1,5 @@
 //! Why a job's call is not done, or not granted, at once.
-ghost use Rattle.std.specs.Prelude.{◌≡◌, IfOk, is_some, not, option_map};
+ghost use Rattle.std.specs.Prelude.{◌≡◌, IfOk, Some, is_some, not, option_map};
 ghost use Rattle.lock_queue.specs.Calls.{outcome_of};
 ghost use Rattle.lock_reasons.specs.Causes.{as_cause, cause_for, cause_of, is_done, unfit_cause, unfit_in};
 
@@ -29,11 +29,11 @@ fn unfit_in(requests: &[Request], call: &LockCall) -> Option<Want>
 }
 
 /// The cause where a want does not fit.
-fn unfit_cause(alloc: Global, requests: &[Request], want: Want) -> Result<Cause, AllocError>
-    ensures { IfOk result (λ cause. as_cause cause ≡ unfit_cause requests.now want) }
+fn unfit_cause(alloc: Global, requests: &[Request], want: Want) -> Result<Option<Cause>, AllocError>
+    ensures { IfOk result (λ cause. option_map as_cause cause ≡ Some (unfit_cause requests.now want)) }
 {
     let way = way_of(alloc, requests, &want)?;
-    Ok(Cause::InTheWay(want, way))
+    Ok(Some(Cause::InTheWay(want, way)))
 }
 
 /// The cause of a call, by the reason for which it is refused, if it is.
@@ -45,14 +45,13 @@ fn cause_for(
 ) -> Result<Option<Cause>, AllocError>
     ensures { IfOk result (λ cause. option_map as_cause cause ≡ cause_for requests.now call.now reason) }
 {
-    let unfit = match reason {
-        Some(Reason::NotGranted(want)) => Some(want),
-        Some(reason) => return Ok(Some(Cause::Refused(reason))),
-        None => unfit_in(requests, call),
-    };
-    match unfit {
-        Some(want) => Ok(Some(unfit_cause(alloc, requests, want)?)),
-        None => Ok(None),
+    match reason {
+        Some(Reason::NotGranted(want)) => unfit_cause(alloc, requests, want),
+        Some(reason) => Ok(Some(Cause::Refused(reason))),
+        None => match unfit_in(requests, call) {
+            Some(want) => unfit_cause(alloc, requests, want),
+            None => Ok(None),
+        },
     }
 }
 

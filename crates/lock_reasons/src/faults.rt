@@ -1,10 +1,10 @@
 //! Which want of a call is at fault, and what it meets.
-ghost use Rattle.std.specs.Prelude.{◌≡◌, []};
+ghost use Rattle.std.specs.Prelude.{◌≡◌, ◌∷◌, []};
 ghost use Rattle.lock_queue.specs.Queue.{names, requests_of, wants_of};
 ghost use Rattle.lock_reasons.specs.Reasons.{by_earlier, by_present, change_fault, fault, first_fault, level_fault};
 ghost use Rattle.lock_reasons.specs.Reasons.{release_fault, request_fault};
 
-use crate::meetings::{Rule, first_met, first_present, first_present_of};
+use crate::meetings::{Present, Rule, first_met};
 use crate::reasons::{Met, Reason};
 use lock_queue::steps::names_key;
 use lock_queue::{Key, Request, Want};
@@ -32,36 +32,59 @@ fn by_earlier(earlier: &[Want], rule: Rule, w: &Want) -> Option<Reason>
     }
 }
 
-/// The want in the queue that a want meets so.
-fn by_present(requests: &[Request], rule: Rule, w: &Want) -> Option<Reason>
-    ensures { result ≡ by_present rule w.now requests.now }
+/// The first want of a request that a want meets so.
+fn by_request(r: &Request, rule: Rule, w: &Want) -> Option<Reason>
+    ensures { result ≡ by_present rule w.now (r.now ∷ []) }
 {
-    match first_present(requests, rule, w) {
-        Some(present) => Some(Reason::Meets(rule, w.copied(), Met::InQueue(present))),
+    match first_met(r.wants.as_slice(), rule, w) {
+        Some(want) => {
+            let present = Present {
+                job: r.job,
+                id: r.id,
+                want,
+            };
+            Some(Reason::Meets(rule, w.copied(), Met::InQueue(present)))
+        }
         None => None,
     }
 }
 
-/// The want of the job in the queue that a want meets so.
+/// The first want in the queue that a want meets so.
+fn by_present(requests: &[Request], rule: Rule, w: &Want) -> Option<Reason>
+    ensures { result ≡ by_present rule w.now requests.now }
+{
+    for r in requests {
+        if let Some(reason) = by_request(r, rule, w) {
+            return Some(reason);
+        }
+    }
+    None
+}
+
+/// The first want of the job in the queue that a want meets so.
 fn by_own(requests: &[Request], job: u8, rule: Rule, w: &Want) -> Option<Reason>
     ensures { result ≡ by_present rule w.now (requests_of requests.now job) }
 {
-    match first_present_of(requests, job, rule, w) {
-        Some(present) => Some(Reason::Meets(rule, w.copied(), Met::InQueue(present))),
-        None => None,
+    for r in requests {
+        if r.job == job
+            && let Some(reason) = by_request(r, rule, w)
+        {
+            return Some(reason);
+        }
     }
+    None
 }
 
 fn request_fault(requests: &[Request], job: u8, earlier: &[Want], w: &Want) -> Option<Reason>
     ensures { result ≡ request_fault requests.now job earlier.now w.now }
 {
-    if let Some(reason) = by_present(requests, Rule::Differs, w) {
-        return Some(reason);
+    match by_present(requests, Rule::Differs, w) {
+        None => match by_earlier(earlier, Rule::Names, w) {
+            None => by_own(requests, job, Rule::Names, w),
+            found => found,
+        },
+        found => found,
     }
-    if let Some(reason) = by_earlier(earlier, Rule::Names, w) {
-        return Some(reason);
-    }
-    by_own(requests, job, Rule::Names, w)
 }
 
 fn level_fault(requests: &[Request], job: u8, earlier: &[Want], w: &Want) -> Option<Reason>
@@ -70,10 +93,10 @@ fn level_fault(requests: &[Request], job: u8, earlier: &[Want], w: &Want) -> Opt
     if w.bypass {
         return None;
     }
-    if let Some(reason) = by_own(requests, job, Rule::Reaches, w) {
-        return Some(reason);
+    match by_own(requests, job, Rule::Reaches, w) {
+        None => by_earlier(earlier, Rule::Reaches, w),
+        found => found,
     }
-    by_earlier(earlier, Rule::Reaches, w)
 }
 
 /// Whether the job has a want of a key.
@@ -91,25 +114,19 @@ fn has_want(requests: &[Request], job: u8, key: &Key) -> bool
 fn release_fault(requests: &[Request], job: u8, earlier: &[Want], w: &Want) -> Option<Reason>
     ensures { result ≡ release_fault requests.now job earlier.now w.now }
 {
-    if let Some(reason) = by_earlier(earlier, Rule::Names, w) {
-        return Some(reason);
+    match by_earlier(earlier, Rule::Names, w) {
+        None if has_want(requests, job, &w.key) => None,
+        None => Some(Reason::NotPresent(w.copied())),
+        found => found,
     }
-    if has_want(requests, job, &w.key) {
-        return None;
-    }
-    Some(Reason::NotPresent(w.copied()))
 }
 
 fn change_fault(requests: &[Request], job: u8, earlier: &[Want], w: &Want) -> Option<Reason>
     ensures { result ≡ change_fault requests.now job earlier.now w.now }
 {
-    if let Some(reason) = release_fault(requests, job, earlier, w) {
-        return Some(reason);
-    }
-    if w.shared {
-        by_own(requests, job, Rule::Pools, w)
-    } else {
-        None
+    match release_fault(requests, job, earlier, w) {
+        None if w.shared => by_own(requests, job, Rule::Pools, w),
+        found => found,
     }
 }
 

@@ -1,11 +1,10 @@
 //! How a want that is asked for meets another one.
-ghost use Rattle.std.specs.Prelude.{◌≡◌, ◌∷◌, []};
+ghost use Rattle.std.specs.Prelude.{◌≡◌};
 ghost use Rattle.std.specs.List.{find};
-ghost use Rattle.lock_queue.specs.Queue.{requests_of};
-ghost use Rattle.lock_reasons.specs.Meetings.{first_present, meets, present_of};
+ghost use Rattle.lock_reasons.specs.Meetings.{meets};
 
 use lock_queue::steps::{is_alike, is_pooled};
-use lock_queue::{Request, RequestId, Want};
+use lock_queue::{RequestId, Want};
 
 /// How a want that is asked for meets another one.
 #[derive(Clone, Copy, Drop)]
@@ -31,19 +30,6 @@ pub struct Present {
     pub want: Want,
 }
 
-impl Present {
-    /// A want of a request.
-    pub fn of(r: &Request, want: &Want) -> Self
-        ensures { result ≡ present_of r.now want.now }
-    {
-        Present {
-            job: r.job,
-            id: r.id,
-            want: want.copied(),
-        }
-    }
-}
-
 /// Whether a want meets another one so.
 fn meets(rule: Rule, w: &Want, v: &Want) -> bool
     ensures { result ≡ meets rule w.now v.now }
@@ -63,42 +49,6 @@ pub fn first_met(wants: &[Want], rule: Rule, w: &Want) -> Option<Want>
     for v in wants {
         if meets(rule, w, v) {
             return Some(v.copied());
-        }
-    }
-    None
-}
-
-/// The first want of a request that a want meets so.
-fn present_in(r: &Request, rule: Rule, w: &Want) -> Option<Present>
-    ensures { result ≡ first_present rule w.now (r.now ∷ []) }
-{
-    match first_met(r.wants.as_slice(), rule, w) {
-        Some(v) => Some(Present::of(r, &v)),
-        None => None,
-    }
-}
-
-/// The first want in the queue that a want meets so.
-pub fn first_present(requests: &[Request], rule: Rule, w: &Want) -> Option<Present>
-    ensures { result ≡ first_present rule w.now requests.now }
-{
-    for r in requests {
-        if let Some(present) = present_in(r, rule, w) {
-            return Some(present);
-        }
-    }
-    None
-}
-
-/// The first want of a job in the queue that a want meets so.
-pub fn first_present_of(requests: &[Request], job: u8, rule: Rule, w: &Want) -> Option<Present>
-    ensures { result ≡ first_present rule w.now (requests_of requests.now job) }
-{
-    for r in requests {
-        if r.job == job
-            && let Some(present) = present_in(r, rule, w)
-        {
-            return Some(present);
         }
     }
     None

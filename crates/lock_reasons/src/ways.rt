@@ -32,9 +32,14 @@ fn push_in_the_way(way: &mut Vec<Present>, w: &Want, r: &Request) -> Result<(), 
     ensures { OnOk result (way.new.items ≡ way.old.items ++ in_the_way w.now r.now) }
 {
     for v in r.wants.as_slice() {
-        if is_met(w, v) {
-            way.push(Present::of(r, v))?;
+        if !is_met(w, v) {
+            continue;
         }
+        way.push(Present {
+            job: r.job,
+            id: r.id,
+            want: v.copied(),
+        })?;
     }
     Ok(())
 }
