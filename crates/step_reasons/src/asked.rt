@@ -15,7 +15,7 @@ use word36::{Address, Word};
 pub const MOST_QUOTA: u16 = u16::MAX;
 
 /// A call on the lock queue.
-#[derive(Clone, Copy, PartialEq, Eq)]
+#[derive(Clone, Copy)]
 pub enum LockService {
     Enq,
     Deq,
