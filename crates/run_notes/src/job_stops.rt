@@ -1,10 +1,14 @@
 //! Why jobs are stopped, in words.
+ghost use Rattle.std.specs.Prelude.{◌≡◌};
+ghost use Rattle.run_notes.specs.Standings.{stop_words};
 
 use job_sched::Stop;
 use ka_cpu::StopReason;
 
 /// Why a job is stopped, in words for a person.
-pub fn stop_text(stop: Stop) -> &'static str {
+pub fn stop_text(stop: Stop) -> &'static str
+    ensures { result.now ≡ stop_words stop }
+{
     match stop {
         Stop::Loaded => "not started",
         Stop::Exit => "EXIT",

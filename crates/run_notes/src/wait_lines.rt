@@ -50,7 +50,7 @@ fn push_wait(text: &mut String, wait: &LockWait<'_>) -> Result<(), AllocError>
 }
 
 /// Adds what a job waits for, by its request among these: `waits for lock X, held by job 2`.
-fn push_lock_wait(
+pub fn push_lock_wait(
     alloc: Global,
     text: &mut String,
     requests: &[Request],

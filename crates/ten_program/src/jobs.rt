@@ -5,7 +5,7 @@ use concrete_machine::Machine;
 use job_sched::{Stop, Wait};
 use program_shell::PendingText;
 use run_facts::Standing;
-use run_notes::{TracedJob, lock_wait_text, stop_text};
+use run_notes::{TracedJob, standing_text};
 use word36::Address;
 
 /// A job of a run.
@@ -19,31 +19,11 @@ pub struct RunningJob {
     pub steps: u64,
 }
 
-/// Whether a job is gone, stopped or goes on.
-pub fn standing_of(machine: &Machine, number: u8) -> Standing {
-    match machine.job(number) {
-        None => Standing::Gone,
-        Some(job) => match job.stop {
-            Some(stop) => Standing::Stopped(stop),
-            None => Standing::Goes(job.wait),
-        },
-    }
-}
-
-/// Reports what a job waits for.
-fn report_wait(machine: &Machine, number: u8, wait: Wait, errors: &mut PendingText) {
-    match wait {
-        Wait::None => errors.say("still runs"),
-        Wait::Sleep(ticks) => errors.say_number("sleeps for ", u64::from(ticks), " ticks more"),
-        Wait::Char => errors.say("waits for a character"),
-        Wait::Line => errors.say("waits for a line"),
-        Wait::Room(_) => errors.say("waits for its output to be taken"),
-        Wait::Queue(limit, _) => {
-            errors.say_made(lock_wait_text(errors.alloc, machine, number));
-            if limit > 0 {
-                errors.say_number(", for ", u64::from(limit), " ticks more");
-            }
-        }
+/// Whether a job waits.
+fn waits(standing: Standing) -> bool {
+    match standing {
+        Standing::Goes(wait) => wait != Wait::None,
+        _ => false,
     }
 }
 
@@ -55,27 +35,21 @@ fn report_spot(job: &TracedJob, place: Address, errors: &mut PendingText) {
 }
 
 impl RunningJob {
+    /// The address where it stands: of its next instruction where it still runs or was stopped by CTRL-C, and else of its last.
+    fn place(&self, standing: Standing) -> Address {
+        match standing {
+            Standing::Goes(Wait::None) | Standing::Stopped(Stop::Typed) => self.traced.next,
+            _ => self.traced.last,
+        }
+    }
+
     /// Reports how it stands, and at which address.
     fn report_standing(&self, machine: &Machine, standing: Standing, errors: &mut PendingText) {
-        let mut place = self.traced.last;
-        match standing {
-            Standing::Gone => errors.say("LOGOUT"),
-            Standing::Stopped(stop) => {
-                errors.say(stop_text(stop));
-                if stop == Stop::Typed {
-                    place = self.traced.next;
-                }
-            }
-            Standing::Goes(wait) => {
-                report_wait(machine, self.traced.number, wait, errors);
-                if wait == Wait::None {
-                    place = self.traced.next;
-                } else {
-                    errors.say(",");
-                }
-            }
+        errors.say_made(standing_text(errors.alloc, machine, self.traced.number));
+        if waits(standing) {
+            errors.say(",");
         }
-        report_spot(&self.traced, place, errors);
+        report_spot(&self.traced, self.place(standing), errors);
     }
 
     /// Reports how it stands, in a line that begins with its number and its source's file: `job 1, FILE: HALT at

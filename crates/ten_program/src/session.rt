@@ -1,6 +1,6 @@
 //! A run of programs: its jobs, and what is typed, reported and drawn.
 
-use crate::jobs::{RunningJob, standing_of};
+use crate::jobs::RunningJob;
 use crate::loading::{assemble_all, log_in_all};
 use crate::notes::{Notes, report_circle};
 use crate::options::Options;
@@ -14,7 +14,7 @@ use machine::MOST_TAKES;
 use monitor::{Answer, Event};
 use program_shell::PendingText;
 use run_facts::{Ending, has_ended_well, status_of};
-use run_notes::has_circle;
+use run_notes::{has_circle, standing_of};
 use run_record::RunEvent;
 use source_labels::Source;
 use std::alloc::{AllocError, Global};
