@@ -9,7 +9,7 @@ loop-i-preserved c =
     record {
       room = search rules;
       copied = ap (λ x. take (c.loop-i.i + 1) (slice_set c.loop-i.numbers c.loop-i.i x)) c.number.ensures.value
-        ∙ copied-more _ _ _ _ (omega arith) below c.loop-i.invariant.copied;
+          ∙ copied-more _ _ _ _ (omega arith) below c.loop-i.invariant.copied;
       plain = λ are. let is = and_parts _ _ are in
-        plain-more _ _ c.index-characters-i.result below (c.loop-i.invariant.plain is.0) (c.is_plain-are_plain.ensures is.1);
+          plain-more _ _ c.index-characters-i.result below (c.loop-i.invariant.plain is.0) (c.is_plain-are_plain.ensures is.1);
     }
