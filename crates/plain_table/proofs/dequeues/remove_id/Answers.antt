@@ -1,0 +1,9 @@
+use Rattle.std.proofs.Common.{arith}
+use Rattle.std.proofs.lemmas.Grind.{common_steps}
+use Rattle.plain_table.proofs.dequeues.remove_id.Goals as goal
+
+pub loop-i-preserved-then-has_id : goal.loop-i-preserved-then-has_id
+loop-i-preserved-then-has_id g c = grind (arith, common_steps)
+
+pub loop-i-preserved : goal.loop-i-preserved
+loop-i-preserved g c = grind (arith, common_steps)
