@@ -66,6 +66,8 @@ pub struct Cursor<'a> {
     pub doubtful: Option<Fault<'a>>,
     /// The first literals.
     pub cuts: [Option<Cut<'a>>; 4],
+    /// Why the line is not read to its end: nothing is left of it then, and nothing more is noted.
+    pub failure: Option<Fault<'a>>,
 }
 
 impl<'a> Cursor<'a> {
@@ -85,6 +87,7 @@ impl<'a> Cursor<'a> {
             misfit: None,
             doubtful: None,
             cuts: [None; 4],
+            failure: None,
         }
     }
 
@@ -94,6 +97,7 @@ impl<'a> Cursor<'a> {
             rest: cut.text,
             column: cut.column,
             in_literal: true,
+            failure: None,
             ..self
         }
     }
@@ -158,31 +162,36 @@ impl<'a> Cursor<'a> {
         }
     }
 
-    /// The fault that something else is expected here.
-    pub fn expected(&self, wanted: &'static str) -> Fault<'a> {
+    /// Ends the line with a fault at a column, where it has none yet.
+    pub fn fail(&mut self, column: usize, reason: Reason<'a>) {
+        if self.failure.is_none() {
+            self.failure = Some(Fault::at(column, reason));
+        }
+        self.rest = &[];
+    }
+
+    /// What stands here: a word, a character, or nothing.
+    fn found(&self) -> &'a [u8] {
         let rest = self.rest;
-        let word = self.word();
-        let found = if !word.is_empty() {
-            word
-        } else if rest.is_empty() {
-            rest
-        } else {
-            &rest[..1]
-        };
-        Fault::at(self.column, Reason::Expected(wanted, found))
+        let length = word_len(rest).max(1).min(rest.len());
+        &rest[..length]
     }
 
-    /// The fault that a sentence tells of the bytes here.
-    pub fn said(&self, sentence: &'static str) -> Fault<'a> {
-        Fault::at(self.column, Reason::Said(sentence))
+    /// Ends the line with the fault that something else is expected here.
+    pub fn expect(&mut self, wanted: &'static str) {
+        let found = self.found();
+        self.fail(self.column, Reason::Expected(wanted, found));
     }
 
-    /// Looks for a byte behind blanks.
-    pub fn want(&mut self, byte: u8, wanted: &'static str) -> Result<(), Fault<'a>> {
-        if self.eat(byte) {
-            Ok(())
-        } else {
-            Err(self.expected(wanted))
+    /// Ends the line with the fault that a sentence tells of the bytes here.
+    pub fn say(&mut self, sentence: &'static str) {
+        self.fail(self.column, Reason::Said(sentence));
+    }
+
+    /// Skips blanks and a byte, which has to be there.
+    pub fn want(&mut self, byte: u8, wanted: &'static str) {
+        if !self.eat(byte) {
+            self.expect(wanted);
         }
     }
 
@@ -203,19 +212,16 @@ impl<'a> Cursor<'a> {
 
     /// Notes a value that has to be within limits, where it is not or may not be.
     pub fn note_value(&mut self, value: Value<'a>, limits: &Limits) {
+        if self.failure.is_some() || limits.hold(value.number) {
+            return;
+        }
         let fault = Fault::at(value.column, Reason::Misfit(value.text, limits.sentence));
-        match value.number {
-            Some(number) if limits.holds(number) => {}
-            Some(_) => {
-                if self.misfit.is_none() {
-                    self.misfit = Some(fault);
-                }
-            }
-            None => {
-                if self.doubtful.is_none() {
-                    self.doubtful = Some(fault);
-                }
-            }
+        let noted = match value.number {
+            Some(_) => &mut self.misfit,
+            None => &mut self.doubtful,
+        };
+        if noted.is_none() {
+            *noted = Some(fault);
         }
     }
 

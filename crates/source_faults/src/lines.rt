@@ -26,41 +26,34 @@ pub fn fault_of<'a>(line: &'a [u8], code: u8, source: &'a [u8]) -> Fault<'a>
 }
 
 /// Reads a line of a source whose numbers are of this radix, and then its literals.
-fn read<'a>(line: &'a [u8], radix: u8, source: &'a [u8]) -> (Cursor<'a>, Result<(), Fault<'a>>) {
+fn read<'a>(line: &'a [u8], radix: u8, source: &'a [u8]) -> Cursor<'a> {
     let mut cursor = Cursor::new(line, radix, source);
     read_labels(&mut cursor);
-    let mut outcome = read_statement(&mut cursor);
-    let whole = cursor;
-    for cut in &whole.cuts {
-        let Some(cut) = cut else {
-            break;
-        };
-        outcome = first_of(outcome, read_literal(*cut, &mut cursor));
+    read_statement(&mut cursor);
+    let cuts = cursor.cuts;
+    for cut in &cuts {
+        if let Some(cut) = cut {
+            read_literal(*cut, &mut cursor);
+        }
     }
-    (cursor, outcome)
+    cursor
 }
 
 /// Reads a literal of a line, and notes the names and the values in it.
-fn read_literal<'a>(cut: Cut<'a>, cursor: &mut Cursor<'a>) -> Result<(), Fault<'a>> {
+fn read_literal<'a>(cut: Cut<'a>, cursor: &mut Cursor<'a>) {
     let mut inner = cursor.inside(cut);
-    let outcome = read_statement(&mut inner);
+    read_statement(&mut inner);
     cursor.take_over(&inner);
-    outcome
+    cursor.failure = first_of(cursor.failure, inner.failure);
 }
 
-/// The fault that stands further left.
-fn first_of<'a>(one: Result<(), Fault<'a>>, other: Result<(), Fault<'a>>) -> Result<(), Fault<'a>> {
+/// The fault that stands further left, if there is one.
+fn first_of<'a>(one: Option<Fault<'a>>, other: Option<Fault<'a>>) -> Option<Fault<'a>> {
     match (one, other) {
-        (Ok(()), _) => other,
-        (Err(first), Err(second)) if second.column < first.column => Err(second),
-        (Err(_), _) => one,
+        (None, _) => other,
+        (Some(first), Some(second)) if second.column < first.column => other,
+        (Some(_), _) => one,
     }
-}
-
-/// What is seen of a line whose numbers are in decimal, whatever fault it has: its labels, names and values.
-fn seen(line: &[u8]) -> Cursor<'_> {
-    let (cursor, _) = read(line, 10, &[]);
-    cursor
 }
 
 /// The fault of a line that is not in the grammar. The radix of its numbers is not known: of ten, eight and two the first that
@@ -70,8 +63,7 @@ fn syntax_of(line: &[u8]) -> Fault<'_> {
         return Fault::at(column, Reason::Said(NOT_ASCII));
     }
     for radix in [10, 8, 2] {
-        let (_, outcome) = read(line, radix, &[]);
-        if let Err(fault) = outcome {
+        if let Some(fault) = read(line, radix, &[]).failure {
             return fault;
         }
     }
@@ -81,7 +73,7 @@ fn syntax_of(line: &[u8]) -> Fault<'_> {
 /// The fault of a line with a name that is not defined: the first of its names that no line of the source defines, or else
 /// the first of them. Of an empty source nothing is known.
 fn unknown_name<'a>(line: &'a [u8], source: &'a [u8]) -> Fault<'a> {
-    let (cursor, _) = read(line, 10, source);
+    let cursor = read(line, 10, source);
     let is_known = !cursor.has_several || (cursor.unknown.is_some() && !source.is_empty());
     let sentence = if !is_known {
         ONE_OF_SEVERAL
@@ -104,17 +96,17 @@ pub const NO_NAME: &str = "is not defined, and is no operation of this assembler
 /// The fault of a line with a value that does not fit, of octal numbers or, where all of these fit, of decimal ones: the first
 /// value that does not fit, or else the first of which that is not known.
 fn misfit_of(line: &[u8]) -> Fault<'_> {
-    let (octal, read_octal) = read(line, 8, &[]);
-    let (decimal, _) = read(line, 10, &[]);
+    let octal = read(line, 8, &[]);
+    let decimal = read(line, 10, &[]);
     let said = Fault::whole(Reason::Said(limit_of(decimal.kind)));
     match octal.misfit {
-        Some(fault) if read_octal.is_ok() => fault,
+        Some(fault) if octal.failure.is_none() => fault,
         _ => decimal.misfit.or(decimal.doubtful).unwrap_or(said),
     }
 }
 
 fn twice(line: &[u8]) -> Fault<'_> {
-    match seen(line).label {
+    match read(line, 10, &[]).label {
         Some(label) => Fault::at(
             0,
             Reason::Is(label, "is defined twice, or its place has a word already"),

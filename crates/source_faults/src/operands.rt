@@ -1,7 +1,7 @@
 //! Numbers, terms, expressions and address parts.
 
 use crate::cursor::Cursor;
-use crate::fault::{Fault, Reason};
+use crate::fault::Reason;
 use crate::values::{ADDRESS, INDEX, Limits, Value};
 
 const TERM: &str = "a number, a name, \".\", \"^D\", \"^O\" or \"[\"";
@@ -15,31 +15,41 @@ pub fn is_name(word: &[u8]) -> bool {
     }
 }
 
-/// Reads digits of a radix, and gives the number, or a greater one than any that fits.
-fn read_number<'a>(
-    cursor: &mut Cursor<'a>,
-    radix: u8,
-    wanted: &'static str,
-) -> Result<i64, Fault<'a>> {
-    let word = cursor.word();
-    if word.is_empty() {
-        return Err(cursor.expected(wanted));
-    }
+/// The number of some digits of a radix, or a greater one than any that fits; or the sentence for what is none.
+fn number_of(word: &[u8], radix: u8) -> Result<i64, &'static str> {
     let mut number = 0i64;
     for c in word {
         if !c.is_ascii_digit() {
-            return Err(Fault::at(cursor.column(), Reason::Is(word, no_number(word))));
+            return Err(no_number(word));
         }
         let digit = c.saturating_sub(b'0');
         if digit >= radix {
-            return Err(Fault::at(cursor.column(), Reason::Is(word, not_of(radix))));
+            return Err(not_of(radix));
         }
         number = number
             .saturating_mul(i64::from(radix))
             .saturating_add(i64::from(digit));
     }
-    cursor.advance(word.len());
     Ok(number)
+}
+
+/// Reads digits of a radix, and gives the number, or a greater one than any that fits.
+fn read_number<'a>(cursor: &mut Cursor<'a>, radix: u8, wanted: &'static str) -> Option<i64> {
+    let word = cursor.word();
+    if word.is_empty() {
+        cursor.expect(wanted);
+        return None;
+    }
+    match number_of(word, radix) {
+        Ok(number) => {
+            cursor.advance(word.len());
+            Some(number)
+        }
+        Err(sentence) => {
+            cursor.fail(cursor.column(), Reason::Is(word, sentence));
+            None
+        }
+    }
 }
 
 /// The sentence for digits and letters that are no number.
@@ -75,12 +85,20 @@ fn not_of(radix: u8) -> &'static str {
 /// What has to follow `^`.
 pub const MARK: &str = "\"D\" or \"O\" and a number";
 
+/// The radix that a letter behind `^` names.
+fn marked_radix(letter: Option<u8>) -> Option<u8> {
+    match letter {
+        Some(b'D' | b'd') => Some(10),
+        Some(b'O' | b'o') => Some(8),
+        _ => None,
+    }
+}
+
 /// Reads what follows `^`.
-fn read_marked<'a>(cursor: &mut Cursor<'a>) -> Result<i64, Fault<'a>> {
-    let radix = match cursor.head() {
-        Some(b'D' | b'd') => 10,
-        Some(b'O' | b'o') => 8,
-        _ => return Err(cursor.expected(MARK)),
+fn read_marked(cursor: &mut Cursor<'_>) -> Option<i64> {
+    let Some(radix) = marked_radix(cursor.head()) else {
+        cursor.expect(MARK);
+        return None;
     };
     cursor.advance(1);
     read_number(cursor, radix, "a number")
@@ -93,7 +111,10 @@ fn literal_len(text: &[u8]) -> Option<usize> {
     let word = inner.word();
     if is_text_form(word) {
         inner.advance(word.len());
-        read_text(&mut inner).ok()?;
+        read_text(&mut inner);
+    }
+    if inner.failure.is_some() {
+        return None;
     }
     let behind = inner.rest();
     let more = behind.iter().position(|c| *c == b']')?;
@@ -108,20 +129,22 @@ fn is_text_form(word: &[u8]) -> bool {
 }
 
 /// Reads a text between two equal characters, and returns how many characters it has.
-pub fn read_text<'a>(cursor: &mut Cursor<'a>) -> Result<usize, Fault<'a>> {
+pub fn read_text(cursor: &mut Cursor<'_>) -> usize {
     cursor.skip();
     let Some((delimiter, body)) = cursor.rest().split_first() else {
-        return Err(cursor.expected("a text between two equal characters"));
+        cursor.expect("a text between two equal characters");
+        return 0;
     };
     let delimiter = *delimiter;
     match body.iter().position(|c| *c == delimiter) {
         Some(length) => {
             cursor.advance(length.saturating_add(2));
-            Ok(length)
+            length
         }
-        None => Err(cursor.said(
-            "the character that begins this text does not stand again behind it",
-        )),
+        None => {
+            cursor.say("the character that begins this text does not stand again behind it");
+            0
+        }
     }
 }
 
@@ -132,50 +155,47 @@ pub const LITERAL_IN_LITERAL: &str = "a literal has no literal in it";
 pub const OPEN_LITERAL: &str = "this \"[\" has no \"]\" behind it";
 
 /// Reads a literal behind its bracket.
-fn read_literal_term<'a>(cursor: &mut Cursor<'a>) -> Result<(), Fault<'a>> {
+fn read_literal_term(cursor: &mut Cursor<'_>) {
     if cursor.is_in_literal() {
-        return Err(cursor.said(LITERAL_IN_LITERAL));
+        return cursor.say(LITERAL_IN_LITERAL);
     }
-    let fault = cursor.said(OPEN_LITERAL);
+    let column = cursor.column();
     cursor.advance(1);
     match literal_len(cursor.rest()) {
-        None => Err(fault),
-        Some(length) => {
-            cursor.cut(length);
-            Ok(())
-        }
+        None => cursor.fail(column, Reason::Said(OPEN_LITERAL)),
+        Some(length) => cursor.cut(length),
     }
 }
 
 /// Reads a term, and gives the number that it is, if it is one.
-fn read_term<'a>(cursor: &mut Cursor<'a>) -> Result<Option<i64>, Fault<'a>> {
+fn read_term(cursor: &mut Cursor<'_>) -> Option<i64> {
     cursor.skip();
     match cursor.head() {
         Some(b'[') => {
-            read_literal_term(cursor)?;
-            Ok(None)
+            read_literal_term(cursor);
+            None
         }
         Some(b'^') => {
             cursor.advance(1);
-            Ok(Some(read_marked(cursor)?))
+            read_marked(cursor)
         }
         _ => read_word_term(cursor),
     }
 }
 
-fn read_word_term<'a>(cursor: &mut Cursor<'a>) -> Result<Option<i64>, Fault<'a>> {
+/// Reads a name, `.` or a number, and gives the number that it is, if it is one.
+fn read_word_term(cursor: &mut Cursor<'_>) -> Option<i64> {
     let word = cursor.word();
     if is_name(word) {
         cursor.note_name(word);
         cursor.advance(word.len());
-        return Ok(None);
+        return None;
     }
     if word == b".".as_slice() {
         cursor.advance(1);
-        return Ok(None);
+        return None;
     }
-    let radix = cursor.radix();
-    Ok(Some(read_number(cursor, radix, TERM)?))
+    read_number(cursor, cursor.radix(), TERM)
 }
 
 /// The sum of two terms, or with `is_minus` their difference; `None` where one is no number.
@@ -188,12 +208,12 @@ fn added(sum: Option<i64>, term: Option<i64>, is_minus: bool) -> Option<i64> {
 }
 
 /// Reads the terms of an expression, and gives its number, if it is made of numbers alone.
-fn read_terms<'a>(cursor: &mut Cursor<'a>) -> Result<Option<i64>, Fault<'a>> {
+fn read_terms(cursor: &mut Cursor<'_>) -> Option<i64> {
     let most = cursor.rest().len();
     let mut is_minus = !cursor.eat(b'+') && cursor.eat(b'-');
     let mut sum = Some(0);
     for _ in 0..=most {
-        let term = read_term(cursor)?;
+        let term = read_term(cursor);
         sum = added(sum, term, is_minus);
         let is_plus = cursor.eat(b'+');
         is_minus = !is_plus && cursor.eat(b'-');
@@ -201,22 +221,21 @@ fn read_terms<'a>(cursor: &mut Cursor<'a>) -> Result<Option<i64>, Fault<'a>> {
             break;
         }
     }
-    Ok(sum)
+    sum
 }
 
 /// Reads an expression.
-pub fn read_value<'a>(cursor: &mut Cursor<'a>) -> Result<Value<'a>, Fault<'a>> {
+fn read_value<'a>(cursor: &mut Cursor<'a>) -> Value<'a> {
     cursor.skip();
     let start = *cursor;
-    let number = read_terms(cursor)?;
-    Ok(cursor.value_since(&start, number))
+    let number = read_terms(cursor);
+    cursor.value_since(&start, number)
 }
 
 /// Reads an expression that has to be within limits.
-pub fn read_expression<'a>(cursor: &mut Cursor<'a>, limits: &Limits) -> Result<(), Fault<'a>> {
-    let value = read_value(cursor)?;
+pub fn read_expression(cursor: &mut Cursor<'_>, limits: &Limits) {
+    let value = read_value(cursor);
     cursor.note_value(value, limits);
-    Ok(())
 }
 
 /// Whether an expression comes next.
@@ -229,51 +248,50 @@ fn begins_expression(cursor: &mut Cursor<'_>) -> bool {
 }
 
 /// Reads an expression if one comes next.
-pub fn read_optional<'a>(cursor: &mut Cursor<'a>) -> Result<Option<Value<'a>>, Fault<'a>> {
+pub fn read_optional<'a>(cursor: &mut Cursor<'a>) -> Option<Value<'a>> {
     if begins_expression(cursor) {
-        Ok(Some(read_value(cursor)?))
+        Some(read_value(cursor))
     } else {
-        Ok(None)
+        None
     }
 }
 
 /// Reads an expression that has to be within limits if one comes next; true if it did.
-pub fn read_within<'a>(cursor: &mut Cursor<'a>, limits: &Limits) -> Result<bool, Fault<'a>> {
+pub fn read_within(cursor: &mut Cursor<'_>, limits: &Limits) -> bool {
     let begins = begins_expression(cursor);
     if begins {
-        read_expression(cursor, limits)?;
+        read_expression(cursor, limits);
     }
-    Ok(begins)
+    begins
 }
 
 /// Reads a register in parentheses if one comes next; true if it did.
-pub fn read_index<'a>(cursor: &mut Cursor<'a>) -> Result<bool, Fault<'a>> {
-    if !cursor.eat(b'(') {
-        return Ok(false);
+pub fn read_index(cursor: &mut Cursor<'_>) -> bool {
+    let begins = cursor.eat(b'(');
+    if begins {
+        read_expression(cursor, &INDEX);
+        cursor.want(b')', "\")\"");
     }
-    read_expression(cursor, &INDEX)?;
-    cursor.want(b')', "\")\"")?;
-    Ok(true)
+    begins
 }
 
 /// Reads an address part; true if any piece of it was there.
-pub fn read_operand<'a>(cursor: &mut Cursor<'a>) -> Result<bool, Fault<'a>> {
+pub fn read_operand(cursor: &mut Cursor<'_>) -> bool {
     let indirect = cursor.eat(b'@');
-    let address = read_within(cursor, &ADDRESS)?;
-    let index = read_index(cursor)?;
-    Ok(indirect || address || index)
+    let address = read_within(cursor, &ADDRESS);
+    let index = read_index(cursor);
+    indirect || address || index
 }
 
 /// Reads a number in decimal, or one that is marked, which has to be within limits.
-pub fn read_decimal<'a>(cursor: &mut Cursor<'a>, limits: &Limits) -> Result<(), Fault<'a>> {
+pub fn read_decimal(cursor: &mut Cursor<'_>, limits: &Limits) {
     cursor.skip();
     let start = *cursor;
     let number = if cursor.eat(b'^') {
-        read_marked(cursor)?
+        read_marked(cursor)
     } else {
-        read_number(cursor, 10, "a number in decimal")?
+        read_number(cursor, 10, "a number in decimal")
     };
-    let value = cursor.value_since(&start, Some(number));
+    let value = cursor.value_since(&start, number);
     cursor.note_value(value, limits);
-    Ok(())
 }

@@ -43,6 +43,20 @@ impl Form {
     fn gives_none(self) -> bool {
         matches!(self, Form::Loc | Form::End | Form::Radix | Form::Title)
     }
+
+    /// Its kind, by its values.
+    fn kind(self) -> Kind {
+        match self {
+            Form::Loc | Form::Block => Kind::Place,
+            Form::End => Kind::End,
+            Form::Radix => Kind::Radix,
+            Form::Title => Kind::Nothing,
+            Form::Halves => Kind::Halves,
+            Form::Exp | Form::Ascii | Form::Asciz => Kind::Word,
+            Form::Point => Kind::Pointer,
+            Form::Sixbit => Kind::Sixbit,
+        }
+    }
 }
 
 /// The names of the forms.
@@ -98,7 +112,7 @@ fn operation_of(name: &[u8]) -> Option<Named> {
 }
 
 /// Reads the labels at the head of a line.
-pub fn read_labels<'a>(cursor: &mut Cursor<'a>) {
+pub fn read_labels(cursor: &mut Cursor<'_>) {
     for _ in 0..=cursor.rest().len() {
         cursor.skip();
         let word = cursor.word();
@@ -112,17 +126,16 @@ pub fn read_labels<'a>(cursor: &mut Cursor<'a>) {
 }
 
 /// Reads a statement with nothing behind it.
-pub fn read_statement<'a>(cursor: &mut Cursor<'a>) -> Result<(), Fault<'a>> {
-    if !cursor.is_in_literal() && cursor.is_at_end() {
-        return Ok(());
+pub fn read_statement(cursor: &mut Cursor<'_>) {
+    if cursor.is_in_literal() || !cursor.is_at_end() {
+        cursor.skip();
+        read_body(cursor);
+        read_end(cursor);
     }
-    cursor.skip();
-    read_body(cursor)?;
-    read_end(cursor)
 }
 
 /// Reads a statement, whatever stands behind it.
-fn read_body<'a>(cursor: &mut Cursor<'a>) -> Result<(), Fault<'a>> {
+fn read_body(cursor: &mut Cursor<'_>) {
     let name = cursor.word();
     if !is_name(name) {
         return read_words(cursor);
@@ -130,25 +143,25 @@ fn read_body<'a>(cursor: &mut Cursor<'a>) -> Result<(), Fault<'a>> {
     if let Some(form) = form_of(name) {
         return read_form(form, name, cursor);
     }
-    if let Some(operation) = operation_of(name) {
-        cursor.advance(name.len());
-        return read_instruction(operation, cursor);
+    match operation_of(name) {
+        Some(operation) => {
+            cursor.advance(name.len());
+            read_instruction(operation, cursor)
+        }
+        None => read_named_value(name, cursor),
     }
-    read_named_value(name, cursor)
 }
 
 /// The sentence for a name with operands that is no operation.
 pub const NO_OPERATION: &str = "is not an operation of this assembler";
 
 /// Reads a value that begins with a name, which must not look like an operation's.
-fn read_named_value<'a>(name: &'a [u8], cursor: &mut Cursor<'a>) -> Result<(), Fault<'a>> {
+fn read_named_value<'a>(name: &'a [u8], cursor: &mut Cursor<'a>) {
     let column = cursor.column();
-    read_words(cursor)?;
+    read_words(cursor);
     if is_call_like(cursor) {
-        let reason = Reason::Is(name, NO_OPERATION);
-        return Err(Fault::at(column, reason));
+        cursor.fail(column, Reason::Is(name, NO_OPERATION));
     }
-    Ok(())
 }
 
 /// Whether the rest of the line looks like an operation's operands.
@@ -160,9 +173,10 @@ fn is_call_like(cursor: &mut Cursor<'_>) -> bool {
     }
 }
 
-fn read_end<'a>(cursor: &mut Cursor<'a>) -> Result<(), Fault<'a>> {
+/// Reads the end of a statement: nothing but a comment stands behind it.
+fn read_end(cursor: &mut Cursor<'_>) {
     if cursor.is_at_end() {
-        return Ok(());
+        return;
     }
     let wanted = match cursor.kind {
         Kind::Instruction | Kind::Word if cursor.head() != Some(b',') => {
@@ -170,53 +184,49 @@ fn read_end<'a>(cursor: &mut Cursor<'a>) -> Result<(), Fault<'a>> {
         }
         _ => "the end of the line",
     };
-    Err(cursor.expected(wanted))
+    cursor.expect(wanted);
 }
 
 /// Reads an instruction behind its name.
-fn read_instruction<'a>(operation: Named, cursor: &mut Cursor<'a>) -> Result<(), Fault<'a>> {
+fn read_instruction(operation: Named, cursor: &mut Cursor<'_>) {
     cursor.kind = Kind::Instruction;
     cursor.skip();
-    let start = *cursor;
-    let (accumulator, operand) = read_operands(cursor)?;
+    let column = cursor.column();
+    let (accumulator, operand) = read_operands(cursor);
     if !accumulator && !operand && !cursor.is_at_end() {
-        return Err(cursor.expected("an accumulator, an address or the end of the line"));
+        cursor.expect("an accumulator, an address or the end of the line");
+    } else if accumulator && !operation.ac {
+        cursor.fail(column, Reason::Said("this operation takes no accumulator"));
+    } else if operand && !operation.addr {
+        cursor.fail(column, Reason::Said("this operation takes no address"));
     }
-    if accumulator && !operation.ac {
-        return Err(start.said("this operation takes no accumulator"));
-    }
-    if operand && !operation.addr {
-        return Err(start.said("this operation takes no address"));
-    }
-    Ok(())
 }
 
 /// Reads the accumulator and the address part of an instruction; true for each that was there.
-fn read_operands<'a>(cursor: &mut Cursor<'a>) -> Result<(bool, bool), Fault<'a>> {
-    match read_optional(cursor)? {
-        None => Ok((false, read_operand(cursor)?)),
+fn read_operands(cursor: &mut Cursor<'_>) -> (bool, bool) {
+    match read_optional(cursor) {
+        None => (false, read_operand(cursor)),
         Some(accumulator) if cursor.eat(b',') => {
             cursor.note_value(accumulator, &ACCUMULATOR);
-            Ok((true, read_operand(cursor)?))
+            (true, read_operand(cursor))
         }
         Some(address) => {
             cursor.note_value(address, &ADDRESS);
-            let _ = read_index(cursor)?;
-            Ok((false, true))
+            read_index(cursor);
+            (false, true)
         }
     }
 }
 
 /// Reads an expression, or two halves.
-fn read_words<'a>(cursor: &mut Cursor<'a>) -> Result<(), Fault<'a>> {
+fn read_words(cursor: &mut Cursor<'_>) {
     cursor.kind = Kind::Word;
-    let Some(first) = read_optional(cursor)? else {
-        return Err(cursor.expected("an operation, a value or a comment"));
+    let Some(first) = read_optional(cursor) else {
+        return cursor.expect("an operation, a value or a comment");
     };
     cursor.skip();
     if !cursor.rest().starts_with(b",,".as_slice()) {
-        cursor.note_value(first, &WORD);
-        return Ok(());
+        return cursor.note_value(first, &WORD);
     }
     cursor.note_value(first, &HALF);
     cursor.kind = Kind::Halves;
@@ -225,33 +235,26 @@ fn read_words<'a>(cursor: &mut Cursor<'a>) -> Result<(), Fault<'a>> {
 }
 
 /// Reads a statement with a name of its own, and checks that it may stand where it does.
-fn read_form<'a>(form: Form, name: &'a [u8], cursor: &mut Cursor<'a>) -> Result<(), Fault<'a>> {
+fn read_form(form: Form, name: &[u8], cursor: &mut Cursor<'_>) {
     let column = cursor.column();
     cursor.advance(name.len());
-    read_behind(form, cursor)?;
+    read_behind(form, cursor);
     if cursor.is_in_literal() && form.gives_none() {
         let reason = Reason::Said("a literal has a statement that gives words");
-        return Err(Fault::at(column, reason));
+        cursor.fail(column, reason);
     }
-    Ok(())
 }
 
 /// Reads what stands behind the name of a statement.
-fn read_behind<'a>(form: Form, cursor: &mut Cursor<'a>) -> Result<(), Fault<'a>> {
+fn read_behind(form: Form, cursor: &mut Cursor<'_>) {
+    cursor.kind = form.kind();
     match form {
-        Form::Loc | Form::Block => {
-            cursor.kind = Kind::Place;
-            read_expression(cursor, &PLACE)
+        Form::Loc | Form::Block => read_expression(cursor, &PLACE),
+        Form::End => {
+            read_within(cursor, &START);
         }
-        Form::End => read_start(cursor),
-        Form::Radix => {
-            cursor.kind = Kind::Radix;
-            read_decimal(cursor, &RADIX)
-        }
-        Form::Title => {
-            read_title(cursor);
-            Ok(())
-        }
+        Form::Radix => read_decimal(cursor, &RADIX),
+        Form::Title => read_title(cursor),
         Form::Halves => read_halves(cursor),
         Form::Exp => read_values(cursor),
         Form::Point => read_point(cursor),
@@ -259,18 +262,10 @@ fn read_behind<'a>(form: Form, cursor: &mut Cursor<'a>) -> Result<(), Fault<'a>>
     }
 }
 
-/// Reads the start that END may have.
-fn read_start<'a>(cursor: &mut Cursor<'a>) -> Result<(), Fault<'a>> {
-    cursor.kind = Kind::End;
-    let _ = read_within(cursor, &START)?;
-    Ok(())
-}
-
 /// Reads the halves of XWD and IOWD.
-fn read_halves<'a>(cursor: &mut Cursor<'a>) -> Result<(), Fault<'a>> {
-    cursor.kind = Kind::Halves;
-    read_expression(cursor, &HALF)?;
-    cursor.want(b',', "\",\" and a second value")?;
+fn read_halves(cursor: &mut Cursor<'_>) {
+    read_expression(cursor, &HALF);
+    cursor.want(b',', "\",\" and a second value");
     read_expression(cursor, &HALF)
 }
 
@@ -284,45 +279,37 @@ fn read_title(cursor: &mut Cursor<'_>) {
 }
 
 /// Reads the values of EXP.
-fn read_values<'a>(cursor: &mut Cursor<'a>) -> Result<(), Fault<'a>> {
-    cursor.kind = Kind::Word;
+fn read_values(cursor: &mut Cursor<'_>) {
     for _ in 0..=cursor.rest().len() {
-        read_expression(cursor, &WORD)?;
+        read_expression(cursor, &WORD);
         if !cursor.eat(b',') {
-            return Ok(());
+            return;
         }
     }
-    Ok(())
 }
 
 /// Reads what follows POINT.
-fn read_point<'a>(cursor: &mut Cursor<'a>) -> Result<(), Fault<'a>> {
-    cursor.kind = Kind::Pointer;
-    read_decimal(cursor, &SIZE)?;
-    cursor.want(b',', "\",\" and an address")?;
-    let _ = read_operand(cursor)?;
+fn read_point(cursor: &mut Cursor<'_>) {
+    read_decimal(cursor, &SIZE);
+    cursor.want(b',', "\",\" and an address");
+    read_operand(cursor);
     if cursor.eat(b',') {
-        return read_decimal(cursor, &BIT);
+        read_decimal(cursor, &BIT);
     }
-    Ok(())
 }
 
 /// Reads the text of ASCII, ASCIZ or SIXBIT.
-fn read_text_form<'a>(form: Form, cursor: &mut Cursor<'a>) -> Result<(), Fault<'a>> {
-    cursor.kind = match form {
-        Form::Sixbit => Kind::Sixbit,
-        _ => Kind::Word,
-    };
+fn read_text_form(form: Form, cursor: &mut Cursor<'_>) {
     cursor.skip();
-    let start = *cursor;
-    let length = read_text(cursor)?;
+    let (column, text) = (cursor.column(), cursor.rest());
+    let length = read_text(cursor);
     if matches!(form, Form::Sixbit) {
-        note_characters(cursor, &start, length);
+        note_characters(cursor, column, text, length);
     }
     if length == 0 && cursor.is_in_literal() && !matches!(form, Form::Asciz) {
-        return Err(start.said("an empty text gives a literal no word"));
+        let reason = Reason::Said("an empty text gives a literal no word");
+        cursor.fail(column, reason);
     }
-    Ok(())
 }
 
 /// Whether a character has a code in SIXBIT.
@@ -331,14 +318,14 @@ fn is_sixbit(c: u8) -> bool {
     c >= b' ' && c <= b'_'
 }
 
-/// Notes the first character of a text of SIXBIT that has no code in it. The cursor stood at the text's delimiter at its start.
-fn note_characters<'a>(cursor: &mut Cursor<'a>, start: &Cursor<'a>, length: usize) {
-    let body = start.rest().get(1..).unwrap_or(&[]);
+/// Notes the first character of a text of SIXBIT that has no code in it. The text begins at a column with its delimiter.
+fn note_characters<'a>(cursor: &mut Cursor<'a>, column: usize, text: &'a [u8], length: usize) {
+    let body = text.get(1..).unwrap_or(&[]);
     for (i, c) in body.iter().take(length).enumerate() {
         if !is_sixbit(*c) {
-            let text = body.get(i..i.saturating_add(1)).unwrap_or(&[]);
-            let column = start.column().saturating_add(i).saturating_add(1);
-            cursor.misfit = Some(Fault::at(column, Reason::Misfit(text, SIXBIT)));
+            let character = body.get(i..i.saturating_add(1)).unwrap_or(&[]);
+            let column = column.saturating_add(i).saturating_add(1);
+            cursor.misfit = Some(Fault::at(column, Reason::Misfit(character, SIXBIT)));
             return;
         }
     }

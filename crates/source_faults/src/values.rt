@@ -21,9 +21,12 @@ pub struct Limits {
 }
 
 impl Limits {
-    /// Whether a number is within them.
-    pub fn holds(&self, number: i64) -> bool {
-        self.least <= number && number <= self.most
+    /// Whether a number is known, and within them.
+    pub fn hold(&self, number: Option<i64>) -> bool {
+        match number {
+            Some(number) => self.least <= number && number <= self.most,
+            None => false,
+        }
     }
 }
 
