@@ -1,10 +1,9 @@
 //! A host in memory.
 
-use program_shell::{Answers, Failure, LineReader};
+use program_shell::{Answers, Failure, Host, LineReader, NextLine, Stream};
 use script_io::{Failed, TestIn, TestOut};
 use std::alloc::Global;
 use std::io::{self, ErrorKind};
-use ten_program::{Host, Stream};
 
 /// A host in memory.
 #[derive(Drop)]
@@ -24,8 +23,16 @@ pub struct Desk<'a> {
 }
 
 impl Host for Desk<'_> {
-    fn next_line(&mut self, line: &mut Vec<u8>) -> Result<bool, Failure> {
+    fn is_person(&self) -> bool {
+        false
+    }
+
+    fn next_text(&mut self, line: &mut Vec<u8>) -> Result<bool, Failure> {
         self.input.next_text(line)
+    }
+
+    fn next_line(&mut self, line: &mut Vec<u8>) -> Result<NextLine, Failure> {
+        self.input.next_line(line)
     }
 
     fn has_ended(&self) -> bool {

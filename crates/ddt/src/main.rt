@@ -1,11 +1,8 @@
 //! The program: a session of the debugger on the sources that its arguments name.
 #![tactic(auto)]
 
-mod terminal;
-
-use crate::terminal::Terminal;
 use ddt_program::{ddt, not_begun};
-use program_shell::{Answers, LineReader, arguments_of};
+use program_shell::{Answers, LineReader, Terminal, arguments_of};
 use script_io::{HostIn, HostOut};
 use std::io::{ErrorKind, IsTerminal};
 use std::process::ExitCode;
@@ -24,7 +21,7 @@ fn main(rt: HostRuntime) -> ExitCode {
         rt: &rt,
         is_person: rt.stderr().is_terminal(),
         input,
-        answers: Answers::new(HostOut::new(rt.stdout())),
+        output: Answers::new(HostOut::new(rt.stdout())),
         errors: Answers::new(errors),
     };
     ExitCode::from(ddt(alloc, arguments.as_slice(), &mut terminal))

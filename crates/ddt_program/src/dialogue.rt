@@ -2,12 +2,12 @@
 
 use crate::file_lines::FileLines;
 use crate::files::{read_file, write_file};
-use crate::host::{Host, Stream, write_answer};
+use crate::host::write_answer;
 use crate::obey::{HostAction, obey_line};
 use crate::session::Session;
 use crate::texts;
 use ddt_timeline::Timeline;
-use program_shell::{DONE, Failure, NextLine};
+use program_shell::{DONE, Failure, Host, NextLine, Stream};
 use script_io::LINE_LENGTH;
 use shown_bytes::shown_text;
 
@@ -86,7 +86,7 @@ fn action_in<'a>(
 }
 
 /// Does what is left to the host; false where the session ends.
-fn serve_action<H: Host>(host: &H, session: &mut Session, action: HostAction<'_>) -> bool {
+fn serve_action<H: Host>(host: &mut H, session: &mut Session, action: HostAction<'_>) -> bool {
     match action {
         HostAction::Keep | HostAction::Refuse => {}
         HostAction::Save(file) => {

@@ -1,7 +1,6 @@
 //! Files that are read and written.
 
-use crate::host::Host;
-use program_shell::{PendingText, file_error_text};
+use program_shell::{Host, PendingText, file_error_text};
 
 /// The bytes of a file; `None` where it cannot be read, and a line that begins with `head` reports why.
 pub fn read_file<H: Host>(
@@ -21,7 +20,7 @@ pub fn read_file<H: Host>(
 
 /// Writes bytes to a file; where it cannot be written, a line that begins with `head` reports why.
 pub fn write_file<H: Host>(
-    host: &H,
+    host: &mut H,
     head: &str,
     file: &str,
     bytes: &[u8],

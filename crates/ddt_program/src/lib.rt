@@ -24,7 +24,6 @@ mod tables;
 mod texts;
 
 pub use arguments::Arguments;
-pub use host::{Host, Stream};
 pub use obey::{HostAction, obey_line};
 pub use options::read_arguments;
 pub use program::{ddt, not_begun};

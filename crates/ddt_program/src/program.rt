@@ -4,7 +4,7 @@ ghost use Rattle.std.specs.Prelude.{◌≡◌, ◌≢◌, false};
 use crate::arguments::Arguments;
 use crate::dialogue::serve_lines;
 use crate::files::read_file;
-use crate::host::{Host, Stream, write_report};
+use crate::host::write_report;
 use crate::loading::begin;
 use crate::options::read_arguments;
 use crate::session::Session;
@@ -12,7 +12,8 @@ use crate::texts;
 use ddt_moves::InputLines;
 use ddt_timeline::Timeline;
 use program_shell::{
-    Answers, DONE, FAILED, Failure, PendingText, REFUSED, Refusal, USAGE, refusal_text,
+    Answers, DONE, FAILED, Failure, Host, PendingText, REFUSED, Refusal, Stream, USAGE,
+    refusal_text,
 };
 use script_io::ByteOut;
 use source_labels::Source;
@@ -60,7 +61,7 @@ fn report_refusal<H: Host>(alloc: Global, refusal: Refusal, host: &mut H) -> Res
         return Err(Failure::Memory);
     };
     let (stream, status) = if said.is_asked_for {
-        (Stream::Answers, DONE)
+        (Stream::Output, DONE)
     } else {
         (Stream::Errors, USAGE)
     };

@@ -1,10 +1,7 @@
 //! The program: assembles the sources that its arguments name, and runs them.
 #![tactic(auto)]
 
-mod terminal;
-
-use crate::terminal::Terminal;
-use program_shell::{Answers, Failure, LineReader, arguments_or_status, report_failure};
+use program_shell::{Answers, Failure, LineReader, Terminal, arguments_or_status, report_failure};
 use script_io::{HostIn, HostOut};
 use std::process::ExitCode;
 use ten_program::{FAILURE_LINES, ten};
@@ -22,6 +19,7 @@ fn main(rt: HostRuntime) -> ExitCode {
     };
     let mut terminal = Terminal {
         rt: &rt,
+        is_person: false,
         input,
         output: Answers::new(HostOut::new(rt.stdout())),
         errors: Answers::new(errors),

@@ -21,6 +21,5 @@ mod typing;
 mod waits;
 
 pub use arguments::read_arguments;
-pub use host::{Host, Stream};
 pub use options::Options;
 pub use program::{FAILURE_LINES, ten};

@@ -1,14 +1,14 @@
 //! The whole program.
 
 use crate::arguments::read_arguments;
-use crate::host::{Host, Stream, write_pending};
+use crate::host::write_pending;
 use crate::options::Options;
 use crate::running::run_jobs;
 use crate::session::Session;
 use concrete_machine::Machine;
 use program_shell::{
-    DONE, FAILED, Failure, FailureLines, PendingText, REFUSED, Refusal, USAGE, file_error_text,
-    refusal_text,
+    DONE, FAILED, Failure, FailureLines, Host, PendingText, REFUSED, Refusal, Stream, USAGE,
+    file_error_text, refusal_text,
 };
 use source_labels::Source;
 use std::alloc::Global;

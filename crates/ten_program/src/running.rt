@@ -1,10 +1,10 @@
 //! Jobs that are run.
 
-use crate::host::{Host, Stream, write_pending};
+use crate::host::write_pending;
 use crate::options::Options;
 use crate::session::Session;
 use concrete_machine::Machine;
-use program_shell::Failure;
+use program_shell::{Failure, Host, Stream};
 
 /// Types lines of the input as long as jobs wait for characters and lines come. With `echo` each is added to the output.
 fn type_awaited<H: Host>(
@@ -20,7 +20,7 @@ fn type_awaited<H: Host>(
         if !typing.wants_line(machine, jobs) {
             break;
         }
-        let has_come = host.next_line(&mut typing.text)?;
+        let has_come = host.next_text(&mut typing.text)?;
         typing.has_ended = host.has_ended();
         if !has_come {
             break;

@@ -1,7 +1,9 @@
 //! The standard streams and the files of the host.
 
-use ddt_program::{Host, Stream};
-use program_shell::{Answers, Failure, LineReader, NextLine};
+use crate::answers::Answers;
+use crate::failure::Failure;
+use crate::host::{Host, Stream};
+use crate::line_reader::{LineReader, NextLine};
 use script_io::{Failed, HostIn, HostOut, StdReader, StdWriter};
 use std::fs;
 use std::io::{self, Stderr, Stdin, Stdout};
@@ -11,12 +13,12 @@ use std::io::{self, Stderr, Stdin, Stdout};
 pub struct Terminal<'a> {
     /// The files.
     pub rt: &'a HostRuntime,
-    /// Whether standard error is a terminal.
+    /// Whether a person types the lines.
     pub is_person: bool,
     /// Standard input, by lines.
     pub input: LineReader<HostIn<StdReader<Stdin>>>,
     /// Standard output.
-    pub answers: Answers<HostOut<StdWriter<Stdout>>>,
+    pub output: Answers<HostOut<StdWriter<Stdout>>>,
     /// Standard error.
     pub errors: Answers<HostOut<StdWriter<Stderr>>>,
 }
@@ -26,13 +28,21 @@ impl Host for Terminal<'_> {
         self.is_person
     }
 
+    fn next_text(&mut self, line: &mut Vec<u8>) -> Result<bool, Failure> {
+        self.input.next_text(line)
+    }
+
     fn next_line(&mut self, line: &mut Vec<u8>) -> Result<NextLine, Failure> {
         self.input.next_line(line)
     }
 
+    fn has_ended(&self) -> bool {
+        self.input.has_ended()
+    }
+
     fn write(&mut self, stream: Stream, bytes: &[u8]) -> Result<(), Failed> {
         match stream {
-            Stream::Answers => self.answers.write(bytes),
+            Stream::Output => self.output.write(bytes),
             Stream::Errors => self.errors.write(bytes),
         }
     }
@@ -41,7 +51,7 @@ impl Host for Terminal<'_> {
         fs::read(self.rt, file)
     }
 
-    fn write_file(&self, file: &str, bytes: &[u8]) -> io::Result<()> {
+    fn write_file(&mut self, file: &str, bytes: &[u8]) -> io::Result<()> {
         fs::write(self.rt, file, bytes)
     }
 }
