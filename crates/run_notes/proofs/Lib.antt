@@ -1,3 +1,4 @@
+mod CallLemmas
 mod CircleLemmas
 mod FollowLemmas
 mod WordLemmas

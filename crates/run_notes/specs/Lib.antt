@@ -1,3 +1,4 @@
+pub mod Calls
 pub mod Followed
 pub mod Words
 pub mod Standings

@@ -1,17 +1,22 @@
 //! Lock calls, reported as they are made.
 
-ghost use Rattle.std.specs.Prelude.{◌≡◌, ◌++◌, IfSome, OnOk, string_bytes};
+ghost use Rattle.std.specs.Prelude.{◌≡◌, ◌≢◌, ◌++◌, Some, IfOk, IfSome, OnOk, codes, string_bytes};
+ghost use Rattle.std.specs.List.{list_any};
 ghost use Rattle.lock_queue.specs.Refusals.{code_of};
+ghost use Rattle.lock_queue.specs.declared.refusal.Refusal.{Refusal};
+ghost use Rattle.run_facts.specs.Answers.{answer_of};
+ghost use Rattle.run_notes.specs.Calls.{block_of, block_use, gives_up, gives_up_lock, has_block, has_name, is_on};
+ghost use Rattle.run_notes.specs.Calls.{lock_service, meaning_of, pending_call, seen_of};
 ghost use Rattle.run_notes.specs.Words.{wants_words};
 
-use crate::block_words::core_for_block;
+use crate::block_words::words_of;
 use crate::locks::push_lock;
 use crate::snapshot::Snapshot;
 use call_block::{Block, read_block};
 use concrete_machine::Machine;
 use job_sched::{NO_FLAGS, Wait};
 use ka_cpu::{Accumulator, CallKind, CoreWords, Regs};
-use ka_isa::{Family, classify, decode};
+use ka_isa::decode;
 use lock_queue::{BlockUse, Name, Refusal, Request, Want};
 use monitor::JobView;
 use run_facts::{CallAnswer, CallSeen, answer_of};
@@ -19,6 +24,9 @@ use std::alloc::{AllocError, Global};
 use std::fmt;
 use uuo_calls::{Service, service_of};
 use word36::{Address, Word};
+
+/// The operation CALLI.
+const CALLI: u16 = 0o47;
 
 /// A call on the lock queue.
 #[derive(Clone, Copy, PartialEq, Eq)]
@@ -30,9 +38,11 @@ enum LockService {
 
 impl LockService {
     /// The lock call of an instruction with this effective address, if it makes one.
-    fn of(instruction: Word, address: Address) -> Option<Self> {
+    fn of(instruction: Word, address: Address) -> Option<Self>
+        ensures { result ≡ lock_service instruction address }
+    {
         let fields = decode(instruction);
-        if classify(fields.op) != Family::Calli {
+        if fields.op != CALLI {
             return None;
         }
         match service_of(CallKind::Calli, Accumulator::new(fields.ac), address) {
@@ -69,7 +79,9 @@ impl LockService {
     }
 
     /// Whether the call names locks by a block.
-    fn has_block(self, function: u32) -> bool {
+    fn has_block(self, function: u32) -> bool
+        ensures { result ≡ has_block self function }
+    {
         match self {
             LockService::Enq => function <= 3,
             LockService::Deq | LockService::Enqc => function == 0,
@@ -77,7 +89,9 @@ impl LockService {
     }
 
     /// What a block's locks are there for.
-    fn block_use(self, function: u32) -> BlockUse {
+    fn block_use(self, function: u32) -> BlockUse
+        ensures { result ≡ block_use self function }
+    {
         match (self, function) {
             (LockService::Enq, 0) => BlockUse::Blocking,
             (LockService::Enq, 1 | 2) => BlockUse::Full,
@@ -132,15 +146,13 @@ fn block_of(
     before: &Snapshot,
     service: LockService,
     asked: Word,
-) -> Result<Option<Block>, AllocError> {
-    let Some(job) = machine.job(number) else {
-        return Ok(None);
-    };
+) -> Result<Option<Block>, AllocError>
+    ensures { IfOk result (λ block. block ≡ block_of machine.now.world number before.now service asked) }
+{
     if !service.has_block(asked.left()) {
         return Ok(None);
     }
-    let address = asked.right();
-    let mut words = core_for_block(alloc, machine, number, job.blocks, address)?;
+    let mut words = words_of(alloc, machine, number)?;
     let regs = Regs {
         ac: before.registers,
         pc: before.place,
@@ -149,8 +161,9 @@ fn block_of(
     let memory = CoreWords {
         words: words.as_mut_slice(),
     };
+    let address = Address::new(asked.right());
     let block_use = service.block_use(asked.left());
-    Ok(read_block(&regs, &memory, Address::new(address), number, block_use).ok())
+    Ok(read_block(&regs, &memory, address, number, block_use).ok())
 }
 
 impl PendingCall {
@@ -160,7 +173,9 @@ impl PendingCall {
         machine: &Machine,
         number: u8,
         before: &Snapshot,
-    ) -> Result<Option<Self>, AllocError> {
+    ) -> Result<Option<Self>, AllocError>
+        ensures { IfOk result (λ call. call ≡ pending_call machine.now number before.now) }
+    {
         let Some(address) = before.address else {
             return Ok(None);
         };
@@ -179,7 +194,9 @@ impl PendingCall {
     }
 
     /// Whether the call gives up this request by another way than by its locks.
-    fn gives_up(&self, request: &Request) -> bool {
+    fn gives_up(&self, request: &Request) -> bool
+        ensures { result ≡ gives_up self.now request.now }
+    {
         match (self.service, self.asked.left()) {
             (LockService::Deq, 1) => true,
             (LockService::Deq, 2) => request.id.number() == self.asked.right(),
@@ -188,15 +205,16 @@ impl PendingCall {
     }
 
     /// Whether the call, of this job, gives up this request, and the request wants a lock of this name.
-    fn gives_up_lock(&self, number: u8, request: &Request, name: &Name) -> bool {
+    fn gives_up_lock(&self, number: u8, request: &Request, name: &Name) -> bool
+        ensures { result ≡ gives_up_lock self.now number name.now request.now }
+    {
         request.job == number && self.gives_up(request) && has_name(request.wants.as_slice(), name)
     }
 
-    /// Whether the call is on a lock of this name: it names the lock, or gives up a request that wants it.
-    pub fn is_on(&self, machine: &Machine, number: u8, name: &Name) -> bool {
-        if let Some(block) = &self.block {
-            return has_name(block.wants.as_slice(), name);
-        }
+    /// Whether the call, of this job, gives up a request that wants a lock of this name.
+    fn gives_up_some(&self, machine: &Machine, number: u8, name: &Name) -> bool
+        ensures { result ≡ list_any (gives_up_lock self.now number name.now) machine.now.world.requests }
+    {
         for i in 0..machine.request_count() {
             if self.gives_up_lock(number, machine.request(i), name) {
                 return true;
@@ -204,54 +222,57 @@ impl PendingCall {
         }
         false
     }
+
+    /// Whether the call is on a lock of this name: it names the lock, or gives up a request that wants it.
+    pub fn is_on(&self, machine: &Machine, number: u8, name: &Name) -> bool
+        ensures { result ≡ is_on machine.now number name.now self.now }
+    {
+        match &self.block {
+            Some(block) => has_name(block.wants.as_slice(), name),
+            None => self.gives_up_some(machine, number, name),
+        }
+    }
 }
 
 /// Whether one of these wants is for a lock of this name.
-fn has_name(wants: &[Want], name: &Name) -> bool {
-    for want in wants {
-        if want.key.name.is_same(name) {
-            return true;
-        }
-    }
-    false
+fn has_name(wants: &[Want], name: &Name) -> bool
+    ensures { result ≡ has_name wants.now name.now }
+{
+    wants.iter().any(|want| want.key.name.is_same(name))
 }
-
-/// All refusals, in the order of their codes.
-const REFUSALS: [Refusal; 18] = [
-    Refusal::NotGranted,
-    Refusal::NoFunction,
-    Refusal::BadBlock,
-    Refusal::BadCount,
-    Refusal::BadPointer,
-    Refusal::BadName,
-    Refusal::BadQualifier,
-    Refusal::BadPool,
-    Refusal::Differs,
-    Refusal::LevelOrder,
-    Refusal::NamedAlready,
-    Refusal::NotPresent,
-    Refusal::WouldLose,
-    Refusal::QueueFull,
-    Refusal::NoVector,
-    Refusal::OverQuota,
-    Refusal::TimedOut,
-    Refusal::NoSuchQuota,
-];
 
 /// The refusal of a code, if there is one.
 fn refusal_of(code: u32) -> Option<Refusal>
-    ensures { IfSome result (λ refusal. code_of refusal ≡ code) }
+    ensures found { IfSome result (λ refusal. code_of refusal ≡ code) }
+    ensures all { (refusal : Refusal) → code_of refusal ≡ code → result ≡ Some refusal }
 {
-    for refusal in REFUSALS {
-        if u32::from(refusal.code()) == code {
-            return Some(refusal);
-        }
+    match code {
+        1 => Some(Refusal::NotGranted),
+        2 => Some(Refusal::NoFunction),
+        3 => Some(Refusal::BadBlock),
+        4 => Some(Refusal::BadCount),
+        5 => Some(Refusal::BadPointer),
+        6 => Some(Refusal::BadName),
+        7 => Some(Refusal::BadQualifier),
+        8 => Some(Refusal::BadPool),
+        9 => Some(Refusal::Differs),
+        10 => Some(Refusal::LevelOrder),
+        11 => Some(Refusal::NamedAlready),
+        12 => Some(Refusal::NotPresent),
+        13 => Some(Refusal::WouldLose),
+        14 => Some(Refusal::QueueFull),
+        15 => Some(Refusal::NoVector),
+        16 => Some(Refusal::OverQuota),
+        17 => Some(Refusal::TimedOut),
+        18 => Some(Refusal::NoSuchQuota),
+        _ => None,
     }
-    None
 }
 
 /// What a refusal means.
-fn meaning_of(refusal: Refusal) -> &'static str {
+fn meaning_of(refusal: Refusal) -> &'static str
+    ensures { result.now ≡ meaning_of refusal }
+{
     match refusal {
         Refusal::NotGranted => "not granted at once",
         Refusal::NoFunction => "no such function",
@@ -275,7 +296,10 @@ fn meaning_of(refusal: Refusal) -> &'static str {
 }
 
 /// What the code of a refused call means.
-fn code_meaning(code: u32) -> &'static str {
+fn code_meaning(code: u32) -> &'static str
+    ensures meaning { (refusal : Refusal) → code_of refusal ≡ code → result.now ≡ meaning_of refusal }
+    ensures unknown { ((refusal : Refusal) → code_of refusal ≢ code) → result.now ≡ codes "no such code" }
+{
     match refusal_of(code) {
         Some(refusal) => meaning_of(refusal),
         None => "no such code",
@@ -350,9 +374,11 @@ fn push_other(text: &mut String, number: u8, call: &PendingCall) -> Result<(), A
 }
 
 /// What a call answered, by how its job stands behind the call and by the word that its accumulator has then.
-fn answer_in(job: &JobView, before: &Snapshot, call: &PendingCall, left: Word) -> CallAnswer {
+fn answer_in(job: &JobView, before: &Snapshot, call: &PendingCall, left: Word) -> CallAnswer
+    ensures { result ≡ answer_of (seen_of job.now before.now call.now left) }
+{
     answer_of(CallSeen {
-        is_enqueue: call.service == LockService::Enq,
+        is_enqueue: matches!(call.service, LockService::Enq),
         function: call.asked.left(),
         is_stopped: job.stop.is_some(),
         is_waiting: matches!(job.wait, Wait::Queue(_, _)),
