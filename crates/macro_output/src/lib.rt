@@ -4,6 +4,8 @@
 mod cross;
 mod listings;
 mod reports;
+mod rows;
+mod shown;
 mod written;
 
 pub use cross::push_cross;

@@ -1,12 +1,12 @@
 //! The listing.
 
 use crate::reports::sorted_faults;
+use crate::rows::push_rows;
 use macro_faults::{Report, push_report};
 use macro_state::{Assembly, Expanded, Listing, Row};
 use macro_stream::Around;
-use script_io::{Parts, push_decimal, push_word};
+use script_io::Parts;
 use std::alloc::AllocError;
-use word36::octal_digits;
 
 /// What is not listed yet, each list in the order of its lines.
 #[derive(Drop)]
@@ -23,81 +23,6 @@ struct Unlisted<'a> {
     faults: &'a [Report],
     /// The texts around places that the stream kept.
     outer: &'a [Around],
-}
-
-/// Adds a number in decimal, in five columns or more.
-fn push_number(out: &mut Vec<u8>, number: u32) -> Result<(), AllocError> {
-    for worth in [10_000u32, 1_000, 100, 10] {
-        if number < worth {
-            out.push(b' ')?;
-        }
-    }
-    push_decimal(out, number)
-}
-
-/// Adds the columns before the text of a line.
-fn push_columns(
-    out: &mut Vec<u8>,
-    number: Option<u32>,
-    row: Option<Row>,
-) -> Result<(), AllocError> {
-    match number {
-        Some(number) => push_number(out, number)?,
-        None => out.extend_from_slice(b"     ")?,
-    }
-    out.push(b' ')?;
-    let (place, word) = match row {
-        Some(row) => (row.place, row.word),
-        None => (None, None),
-    };
-    match place {
-        Some(place) => out.extend_from_slice(&octal_digits::<6>(u64::from(place)))?,
-        None => out.extend_from_slice(b"      ")?,
-    }
-    out.push(b' ')?;
-    match word {
-        Some(word) => push_word(out, word)?,
-        None => out.extend_from_slice(b"              ")?,
-    }
-    out.extend_from_slice(b"  ")?;
-    Ok(())
-}
-
-/// Ends the line that begins at this index, without the blanks at its end.
-fn end_line(out: &mut Vec<u8>, start: usize) -> Result<(), AllocError> {
-    let mut end = out.len();
-    for index in (start..out.len()).rev() {
-        match out.as_slice().get(index) {
-            Some(b' ' | b'\t' | b'\r') => end = index,
-            Some(_) | None => break,
-        }
-    }
-    out.truncate(end);
-    out.push(b'\n')?;
-    Ok(())
-}
-
-/// Adds a line: the first row with its number and text, and the rows behind it, each alone.
-fn push_rows(
-    out: &mut Vec<u8>,
-    number: Option<u32>,
-    rows: &[Row],
-    depth: u32,
-    text: &[u8],
-) -> Result<(), AllocError> {
-    let start = out.len();
-    push_columns(out, number, rows.first().copied())?;
-    for _ in 0..depth {
-        out.push(b'+')?;
-    }
-    out.extend_from_slice(text)?;
-    end_line(out, start)?;
-    for row in rows.iter().skip(1) {
-        let start = out.len();
-        push_columns(out, None, Some(*row))?;
-        end_line(out, start)?;
-    }
-    Ok(())
 }
 
 /// Whether a line is not listed.

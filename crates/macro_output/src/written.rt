@@ -1,13 +1,15 @@
 //! The source of the subset that stands for an image.
-ghost use Rattle.std.specs.Prelude.{IfOk, IfSome};
+ghost use Rattle.std.specs.Prelude.{IfOk, IfSome, IsTrue};
+ghost use Rattle.macro_output.specs.Shown.{Shows};
 ghost use Rattle.source_check.specs.Same.{ComesTo};
 
+use crate::shown::rows_show;
 use macro_names::{Name, text_of};
-use macro_state::Assembly;
+use macro_state::{Assembly, Row};
 use macro_symbols::DefinitionKind;
 use script_io::push_word;
 use source_check::assembles_to;
-use std::alloc::AllocError;
+use std::alloc::{AllocError, Global};
 use word36::{Image, Word, octal_text};
 
 /// A label and its place.
@@ -178,15 +180,29 @@ pub struct Written {
     pub image: Image,
 }
 
+/// Whether a source of the subset assembles to an image, and rows of the listing show its words, each once.
+fn is_right(alloc: Global, text: &[u8], rows: &[Row], image: &Image) -> Result<bool, AllocError>
+    ensures read_back { IfOk result (λ holds. IsTrue holds → ComesTo text.now image.now) }
+    ensures listed { IfOk result (λ holds. IsTrue holds → Shows rows.now image.now.words.items) }
+{
+    if !rows_show(alloc, rows, image.words.as_slice())? {
+        return Ok(false);
+    }
+    assembles_to(alloc, text, image)
+}
+
 /// The source of the subset that stands for an assembly, with its image: a line a word, its labels before it, and END with
-/// the start. None where the assembler of the subset does not make that image of it.
+/// the start. None where the assembler of the subset does not make that image of it, or the rows of the listing do not show
+/// its words.
 pub fn source_of(state: &Assembly) -> Result<Option<Written>, AllocError>
     ensures read_back { IfOk result (λ found. IfSome found (λ written. ComesTo written.text.items written.image)) }
+    ensures listed { IfOk result (λ found. IfSome found (λ written. Shows state.now.listing.rows.items written.image.words.items)) }
 {
     let image = image_of(state)?;
     let mut text = Vec::new(state.alloc);
     push_source(&mut text, state)?;
-    if assembles_to(state.alloc, text.as_slice(), &image)? {
+    let rows = state.listing.rows.as_slice();
+    if is_right(state.alloc, text.as_slice(), rows, &image)? {
         return Ok(Some(Written { text, image }));
     }
     Ok(None)

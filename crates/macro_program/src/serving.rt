@@ -22,9 +22,9 @@ pub const FAILURE_LINES: FailureLines = FailureLines {
     memory: b"macro: memory\n",
 };
 
-/// The line where the words of a source are not those that are read back.
+/// The line where the words of a source are not those that are read back, or not those that its listing shows.
 const NOT_READ_BACK: &[u8] =
-    b"macro: a fault of this program: what it wrote does not assemble to the words of the source\n";
+    b"macro: a fault of this program: what it wrote or listed is not the words of the source\n";
 
 /// What is written of a source.
 #[derive(Drop)]
