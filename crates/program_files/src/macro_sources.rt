@@ -17,7 +17,7 @@ use std::alloc::{AllocError, Global};
 
 /// The line where the words of a source are not those that are read back.
 const NOT_READ_BACK: &str =
-    "a fault of this program: what it wrote does not assemble to the words of the source";
+    "a fault of this program: what it wrote or listed is not the words of the source";
 
 /// The names of a source that stand for numbers: those that are assigned, and labels between PHASE and DEPHASE, whose words
 /// stand elsewhere.
