@@ -15,14 +15,17 @@ use Rattle.ddt_timeline.specs.Runs.{IsRun, some_go_on}
 use Rattle.ddt_timeline.specs.Stops.{met_after}
 use Rattle.ddt_timeline.specs.declared.stops.Run.{Run}
 use Rattle.ddt_timeline.specs.declared.stops.WatchedStop.{WatchedStop}
-use Rattle.ddt_moves.specs.OtherEnds.{ends_for, has_grant_behind, is_grant, lines_behind, seen_by}
-use Rattle.ddt_moves.specs.RunEnds.{IsEnd, IsWatchEnd, stop_behind}
+use Rattle.ddt_moves.specs.OtherEnds.{ends_for, has_grant_behind, if_breakpoint, is_grant, lines_behind, seen_by}
+use Rattle.ddt_moves.specs.RunEnds.{IsCountedEnd, IsEnd, IsWatchEnd, cause_at_slot, stop_behind}
 use Rattle.ddt_moves.specs.RunStops.{cause_at}
+use Rattle.ddt_moves.specs.Visits.{due_behind}
 use Rattle.ddt_moves.specs.declared.lock_watch.LockWatch.{LockWatch}
 use Rattle.ddt_moves.specs.declared.run_stops.Cause.{Cause}
 use Rattle.ddt_moves.specs.declared.run_stops.RunStops.{RunStops}
 use Rattle.ddt_moves.specs.declared.runs.RunEnd.{RunEnd}
 use Rattle.ddt_moves.specs.declared.stop_lists.StopList.{StopList}
+use Rattle.ddt_moves.specs.declared.visits.Counter.{Counter}
+use Rattle.ddt_moves.proofs.CounterLemmas.{IsCounted, IsCountedBy}
 use Rattle.ddt_moves.proofs.WatchLemmas.{IsWatched, IsWatchedBy}
 
 -- ---- stops
@@ -132,6 +135,43 @@ end_by_watch s stops list most ran w end run watched by_watch ended =
           ended.cut ∙ not_cut (is_none (stop_behind stops.stops.items s end.made)) end.cause (nat_le most end.made) some;
       ends = λ less _ no_cause. absurd (false≢true (sym (ap (λ (o : Option Cause). is_some o) no_cause) ∙ some));
     }
+
+-- ---- breakpoints that count
+
+-- a run that a stop ended, or none
+pub counted_by_stop : (s : S) (cs : List Counter) (stops : RunStops) (list : StopList) (most : ℕ) (ran : Run) (end : RunEnd)
+    → IsRun s stops.stops.items most ran
+    → IsCounted s cs ran
+    → ran.by_watch ≡ false
+    → end.made ≡ ran.made
+    → end.cause ≡ cause_at stops.causes.items ran.stop
+    → IsCountedEnd s cs stops list end
+counted_by_stop s cs stops list most ran end run counted quiet made cause =
+    let stop : ran.stop ≡ stop_behind stops.stops.items s end.made = stop_is s stops.stops.items most ran run end.made made in
+    record {
+      none_over = λ n less. counted.none n (omega (arith, less, made));
+      cause =
+          λ none.
+          ap (λ (o : Option Cause). if_breakpoint o)
+          (cause ∙ ap (λ (o : Option ℕ). cause_at stops.causes.items o) (stop ∙ none))
+          ∙ sym (ap (λ (n : ℕ). cause_at_slot list (due_behind s cs n)) made
+          ∙ ap (λ (o : Option ℕ). cause_at_slot list o) (counted.quiet (stop ∙ none) quiet));
+    }
+
+-- a run that its watch ended
+pub counted_by_watch : (s : S) (cs : List Counter) (stops : RunStops) (list : StopList) (ran : Run) (w : LockWatch) (end : RunEnd)
+    → IsCountedBy s list cs w ran
+    → ran.by_watch ≡ true
+    → IsWatchEnd w ran.made end
+    → IsCountedEnd s cs stops list end
+counted_by_watch s cs stops list ran w end counted by_watch ended = record {
+  none_over = λ n less. counted.run.none n (omega (arith, less, ended.made));
+  cause =
+      λ _.
+      ap (λ (o : Option Cause). if_breakpoint o) ended.cause
+      ∙ counted.cause by_watch ended.worked ended.some
+      ∙ ap (λ (n : ℕ). cause_at_slot list (due_behind s cs n)) (sym ended.made);
+}
 
 -- ---- lines on grants
 

@@ -1,3 +1,5 @@
 mod ReplayLemmas
+mod VisitLemmas
 mod WatchLemmas
+mod CounterLemmas
 mod EndLemmas

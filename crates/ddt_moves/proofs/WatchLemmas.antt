@@ -8,6 +8,7 @@ use Rattle.std.proofs.lemmas.Option.{slice_get_cases}
 use Rattle.std.proofs.lemmas.Bool.{and_parts, cases_lt, false≢true, not-true}
 use Rattle.lock_queue.specs.Queue.{some_behind}
 use Rattle.lock_queue.specs.declared.request.Request.{Request}
+use Rattle.machine.specs.Between.{next_in}
 use Rattle.machine.specs.Machine.{S, after}
 use Rattle.machine.specs.Rounds.{rounds}
 use Rattle.run_notes.specs.Words.{grants_words}
@@ -43,7 +44,7 @@ some_at test rs i here within found = by_cases (slice_get_cases rs i).1
         ∙ ap (λ (n : ℕ). here || some_behind test (take n rs) (drop n rs)) (sym (add-one i))
 
 abbrev pub asks : LockWatch → LockWatch → S → Option ℕ → Bool → Type 0
-asks old new s ran is_end = HasLooked old new s is_end
+asks old new s ran is_end = HasLooked old new s ran is_end
 
 -- what a run that goes on has seen besides its stops
 pub record IsWatched (s : S) (list : StopList) (ran : Run) : Type 0 where
@@ -71,13 +72,13 @@ no_grants s list ran without = record {
 -- ---- one look
 
 -- a watch that goes on has worked, has no cause, and has seen no grant
-goes_on_parts : (failed : Bool) (cause : Option Cause) → false ≡ (failed || is_some cause) → (failed ≡ false) × (cause ≡ None)
+pub goes_on_parts : (failed : Bool) (cause : Option Cause) → false ≡ (failed || is_some cause) → (failed ≡ false) × (cause ≡ None)
 goes_on_parts true cause ended = absurd (false≢true ended)
 goes_on_parts false (Some cause) ended = absurd (false≢true ended)
 goes_on_parts false None ended = (refl, refl)
 
-saw_none : (v u : LockWatch) (s : S) → HasLooked v u s false → sees_grant v s ≡ false
-saw_none v u s looked =
+saw_none : (v u : LockWatch) (s : S) (ran : Option ℕ) → HasLooked v u s ran false → sees_grant v s ≡ false
+saw_none v u s ran looked =
     let parts = goes_on_parts u.has_failed u.cause looked.ended in
     not-true (sees_grant v s)
     (sym (ap (λ (o : Option Cause). ends_for (list_of v) s (sees_grant v s) o) parts.1) ∙ looked.cause parts.0)
@@ -122,12 +123,13 @@ sees_last s list v n before =
     ∙ same_and list.grants (grants_since (seen_by v) (after (rounds (suc n) true) s)) (has_grant_behind s (suc n))
     (λ at_grants. ap (λ (rs : List Request). grants_since rs (after (rounds (suc n) true) s)) (before.seen at_grants))
 
-last_quiet : (s : S) (list : StopList) (v u : LockWatch) (n : ℕ) → HasSeen s list v n → HasLooked v u (after (rounds (suc n) true) s) false
+last_quiet : (s : S) (list : StopList) (v u : LockWatch) (n : ℕ) → HasSeen s list v n
+    → HasLooked v u (after (rounds (suc n) true) s) (next_in (after (rounds n true) s)) false
     → list.grants ≡ true
     → has_grant_behind s (suc n) ≡ false
 last_quiet s list v u n before looked at_grants =
     and_false list.grants (has_grant_behind s (suc n)) at_grants
-    (sym (sees_last s list v n before) ∙ saw_none v u (after (rounds (suc n) true) s) looked)
+    (sym (sees_last s list v n before) ∙ saw_none v u (after (rounds (suc n) true) s) (next_in (after (rounds n true) s)) looked)
 
 none_yet : (s : S) (k : ℕ) → k < 1 → has_grant_behind s k ≡ false
 none_yet s zero less = refl
@@ -153,7 +155,7 @@ has_seen s list w v zero lists begins same = record {
 has_seen s list w v (suc n) lists begins asked =
     let x = asked.0 in
     let before : HasSeen s list x n = has_seen s list w x n lists begins asked.1 in
-    let looked : HasLooked x v (after (rounds (suc n) true) s) false = asked.2 in
+    let looked : HasLooked x v (after (rounds (suc n) true) s) (next_in (after (rounds n true) s)) false = asked.2 in
     record {
       lists = looked.list ∙ before.lists;
       seen = λ at_grants. looked.seen refl (ap (λ (l : StopList). l.grants) before.lists ∙ at_grants);
@@ -163,14 +165,24 @@ has_seen s list w v (suc n) lists begins asked =
 -- ---- a run
 
 asked_at_none : (s : S) (v u : LockWatch) (n : ℕ) (stop : Option ℕ) (is_end : Bool) → stop ≡ None → AskedLast asks s v u n stop is_end
-    → HasLooked v u (after (rounds n true) s) is_end
+    → HasLooked v u (after (rounds n true) s) (next_in (after (rounds (n - 1) true) s)) is_end
 asked_at_none s v u n None is_end none looked = looked
 asked_at_none s v u n (Some i) is_end none same = cc
+
+-- the last look of a run
+pub last_look : (s : S) (v u : LockWatch) (n : ℕ) (ran : Run) → AskedLast asks s v u ran.made ran.stop ran.by_watch → ran.made ≡ suc n
+    → ran.stop ≡ None
+    → HasLooked v u (after (rounds (suc n) true) s) (next_in (after (rounds n true) s)) ran.by_watch
+last_look s v u n ran asked made none =
+    let before : ran.made - 1 ≡ n = omega (arith, made) in
+    subst (λ (k : ℕ). HasLooked v u (after (rounds (suc n) true) s) (next_in (after (rounds k true) s)) ran.by_watch) before
+    (subst (λ (k : ℕ). HasLooked v u (after (rounds k true) s) (next_in (after (rounds (ran.made - 1) true) s)) ran.by_watch) made
+    (asked_at_none s v u ran.made ran.stop ran.by_watch none asked))
 
 record IsAskedTo (s : S) (list : StopList) (u : LockWatch) (n : ℕ) (stop : Option ℕ) (is_end : Bool) : Type 0 where
   watch : LockWatch
   before : HasSeen s list watch n
-  last : stop ≡ None → HasLooked watch u (after (rounds (suc n) true) s) is_end
+  last : stop ≡ None → HasLooked watch u (after (rounds (suc n) true) s) (next_in (after (rounds n true) s)) is_end
 
 asked_to : (s : S) (list : StopList) (w u : LockWatch) (n : ℕ) (ran : Run) → list_of w ≡ list → seen_by w ≡ s.world.requests
     → IsAsked asks s w u ran
@@ -182,10 +194,7 @@ asked_to s list w u n ran lists begins asked made =
     record {
       watch = v;
       before = has_seen s list w v n lists begins (subst (λ (k : ℕ). Asked asks s w v k) before asked.1);
-      last =
-          λ none.
-          subst (λ (k : ℕ). HasLooked v u (after (rounds k true) s) ran.by_watch) made
-          (asked_at_none s v u ran.made ran.stop ran.by_watch none asked.2);
+      last = λ none. last_look s v u n ran asked.2 made none;
     }
 
 -- a run whose watch has all of these stops, and had seen the requests before it
@@ -215,7 +224,8 @@ watched s list w u ran lists begins alone asked = by_made ran.made refl
                 λ at_grants none quiet.
                 ap (λ (k : ℕ). has_grant_behind s k) made
                 ∙ last_quiet s list x.watch u n x.before
-                (subst (λ (b : Bool). HasLooked x.watch u (after (rounds (suc n) true) s) b) quiet (x.last none)) at_grants;
+                (subst (λ (b : Bool). HasLooked x.watch u (after (rounds (suc n) true) s) (next_in (after (rounds n true) s)) b) quiet
+                (x.last none)) at_grants;
           };
           cause =
               λ by_watch worked some.
@@ -230,7 +240,8 @@ watched s list w u ran lists begins alone asked = by_made ran.made refl
               has_cause u.has_failed u.cause (sym by_watch ∙ (x.last (alone by_watch)).ended) worked;
           lines =
               λ by_watch worked some is ticks.
-              let looked : HasLooked x.watch u (after (rounds (suc n) true) s) ran.by_watch = x.last (alone by_watch) in
+              let looked : HasLooked x.watch u (after (rounds (suc n) true) s) (next_in (after (rounds n true) s)) ran.by_watch =
+              x.last (alone by_watch) in
               let at_grants : list.grants ≡ true =
               sym (ap (λ (l : StopList). l.grants) x.before.lists)
               ∙ (and_parts _ _

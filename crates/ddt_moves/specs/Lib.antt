@@ -5,3 +5,4 @@ pub mod RunEnds
 pub mod RunStops
 pub mod Starts
 pub mod StopLists
+pub mod Visits

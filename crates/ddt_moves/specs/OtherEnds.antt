@@ -1,6 +1,6 @@
 -- What ends a run besides its stops: grants, calls on a lock, and breakpoints that count (this project's profile).
-use Rattle.std.specs.Prelude.{◌≡◌, ◌==◌, ◌-◌, ◌&&◌, ◌||◌, ℕ, zero, suc, nat_lt, Bool, true, false, is_some, not, List, [], slice_index_or}
-use Rattle.std.specs.Prelude.{Option, Some, None}
+use Rattle.std.specs.Prelude.{◌≡◌, ◌==◌, ◌+◌, ◌-◌, ◌&&◌, ◌||◌, ℕ, zero, suc, nat_lt, Bool, true, false, is_some, not, List, [], map, slice_index_or}
+use Rattle.std.specs.Prelude.{Option, Some, None, if◌then◌else◌}
 use Rattle.lock_queue.specs.Queue.{some_behind}
 use Rattle.lock_queue.specs.declared.request.Request.{Request}
 use Rattle.machine.specs.Machine.{S, after}
@@ -14,6 +14,8 @@ use Rattle.ddt_moves.specs.declared.run_stops.Cause.{Cause}
 use Rattle.ddt_moves.specs.declared.run_stops.Cause.TheVariants as cause
 use Rattle.ddt_moves.specs.declared.stop_lists.Breakpoint.{Breakpoint}
 use Rattle.ddt_moves.specs.declared.stop_lists.StopList.{StopList}
+use Rattle.ddt_moves.specs.declared.visits.Counter.{Counter}
+use Rattle.ddt_moves.specs.Visits.{first_due, stepped}
 
 -- whether one of the requests of a state is granted there and was waiting among some others
 abbrev pub grants_since : List Request → S → Bool
@@ -32,6 +34,30 @@ stands s b = is_met false s None (At b.job b.address b.condition)
 abbrev pub counts_at : S → ℕ → ℕ → Option Breakpoint → Bool
 counts_at s job address (Some b) = ((b.job == job && b.address == address) && nat_lt 1 b.times) && stands s b
 counts_at s job address None = false
+
+-- why a run ends at a breakpoint in a slot, if it is set and counts, and its job stands there
+abbrev pub counted_at : S → ℕ → Option Breakpoint → Option Cause
+counted_at s slot (Some b) = if nat_lt 1 b.times && stands s b then Some (cause.Breakpoint (slot + 1) b.job b.address) else None
+counted_at s slot None = None
+
+abbrev pub counted_cause : StopList → S → ℕ → Option Cause
+counted_cause list s slot = counted_at s slot (slice_index_or list.breakpoints slot None)
+
+-- and in this slot, if one is given
+abbrev pub counted_in : StopList → S → Option ℕ → Option Cause
+counted_in list s (Some slot) = counted_cause list s slot
+counted_in list s None = None
+
+-- the cause of a run, where that is a breakpoint
+abbrev pub if_breakpoint : Option Cause → Option Cause
+if_breakpoint None = None
+if_breakpoint (Some (cause.Breakpoint number job address)) = Some (cause.Breakpoint number job address)
+if_breakpoint (Some (cause.Word job address was)) = None
+if_breakpoint (Some cause.Circle) = None
+if_breakpoint (Some cause.Own) = None
+if_breakpoint (Some cause.Input) = None
+if_breakpoint (Some (cause.Call job)) = None
+if_breakpoint (Some cause.Grant) = None
 
 -- whether this may be why a run ends in a state where none of its stops holds, if it ends there; whether a grant at which it stops was
 -- made in its last round is given: at a breakpoint of this number that counts, where its job stands; before a call on the lock of
@@ -74,16 +100,27 @@ list_of w = w.list.now
 abbrev pub seen_by : LockWatch → List Request
 seen_by w = w.requests.items
 
+-- its breakpoints that count
+abbrev pub counters_of : LockWatch → List Counter
+counters_of w = w.counters.items
+
+-- why it ends a run at one of them, behind a round in which a job ran: that is the first that is due
+abbrev pub due_cause : LockWatch → S → Option ℕ → Option Cause
+due_cause w s ran = counted_in (list_of w) s (first_due s ran (counters_of w))
+
 -- whether it stops at grants, and sees one in a state
 abbrev pub sees_grant : LockWatch → S → Bool
 sees_grant w s = (list_of w).grants && grants_since (seen_by w) s
 
--- a watch looks at a state behind a round, and says whether the run ends there: where it could look, it ends the run exactly where it
--- has a cause, and has one wherever it sees a grant; where the run goes on, it has seen the requests that are present now, and where
--- it ends at a grant, those before
-pub record HasLooked (old new : LockWatch) (s : S) (is_end : Bool) : Type 0 where
+-- a watch looks at a state behind a round in which a job ran, and says whether the run ends there: where it could look, it ends the
+-- run exactly where it has a cause, and has one wherever it sees a grant; where the run goes on, it has seen the requests that are
+-- present now, and where it ends at a grant, those before. Its counters see the round, and it ends the run at a breakpoint exactly
+-- where one of them is due
+pub record HasLooked (old new : LockWatch) (s : S) (ran : Option ℕ) (is_end : Bool) : Type 0 where
   pub list : list_of new ≡ list_of old
   pub ended : is_end ≡ (new.has_failed || is_some new.cause)
   pub cause : new.has_failed ≡ false → ends_for (list_of old) s (sees_grant old s) new.cause ≡ true
   pub seen : is_end ≡ false → (list_of old).grants ≡ true → seen_by new ≡ s.world.requests
   pub kept : new.has_failed ≡ false → is_grant new.cause ≡ true → seen_by new ≡ seen_by old
+  pub counters : counters_of new ≡ map (stepped s ran) (counters_of old)
+  pub due : new.has_failed ≡ false → if_breakpoint new.cause ≡ due_cause old s ran

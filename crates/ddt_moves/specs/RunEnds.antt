@@ -5,7 +5,11 @@ use Rattle.machine.specs.Rounds.{rounds}
 use Rattle.ddt_timeline.specs.Runs.{some_go_on}
 use Rattle.ddt_timeline.specs.Stops.{met_after}
 use Rattle.ddt_timeline.specs.declared.stops.WatchedStop.{WatchedStop}
-use Rattle.ddt_moves.specs.OtherEnds.{ends_for, has_grant_behind}
+use Rattle.ddt_moves.specs.OtherEnds.{ends_for, has_grant_behind, if_breakpoint}
+use Rattle.ddt_moves.specs.Starts.{cause_in}
+use Rattle.ddt_moves.specs.Visits.{due_behind}
+use Rattle.ddt_moves.specs.declared.run_stops.Cause.{Cause}
+use Rattle.ddt_moves.specs.declared.visits.Counter.{Counter}
 use Rattle.ddt_moves.specs.declared.lock_watch.LockWatch.{LockWatch}
 use Rattle.ddt_moves.specs.declared.run_stops.RunStops.{RunStops}
 use Rattle.ddt_moves.specs.declared.runs.RunEnd.{RunEnd}
@@ -32,6 +36,20 @@ pub record IsEnd (s : S) (stops : RunStops) (list : StopList) (most : ℕ) (end 
   pub ends :
       end.made < most → stop_behind stops.stops.items s end.made ≡ None → end.cause ≡ None
       → some_go_on (after (rounds end.made true) s) ≡ false
+
+-- why a run ends at the breakpoint in this slot, if one is given
+abbrev pub cause_at_slot : StopList → Option ℕ → Option Cause
+cause_at_slot list (Some slot) = cause_in list.breakpoints slot
+cause_at_slot list None = None
+
+-- a run from a state on with these counters, to some stops and to the breakpoints that count: behind none of its rounds but the last was
+-- one of them due; where no stop holds behind the last one, the cause is a breakpoint exactly where one is due there, and that is the
+-- first that is
+pub record IsCountedEnd (s : S) (counters : List Counter) (stops : RunStops) (list : StopList) (end : RunEnd) : Type 0 where
+  pub none_over : (n : ℕ) → n < end.made → due_behind s counters n ≡ None
+  pub cause :
+      stop_behind stops.stops.items s end.made ≡ None
+      → if_breakpoint end.cause ≡ cause_at_slot list (due_behind s counters end.made)
 
 -- the end of a run of so many rounds that a watch ended
 pub record IsWatchEnd (w : LockWatch) (n : ℕ) (end : RunEnd) : Type 0 where

@@ -1,16 +1,19 @@
 //! A watch for calls on a lock, for grants, and for breakpoints that count.
 
-ghost use Rattle.std.specs.Prelude.{◌≡◌, [], Bool, IfOk, IfSome, false, is_some, true};
+ghost use Rattle.std.specs.Prelude.{◌≡◌, [], Bool, IfOk, IfSome, None, false, is_some, map, true};
 ghost use Rattle.lock_queue.specs.Queue.{some_behind};
 ghost use Rattle.run_facts.specs.Grants.{is_new_grant};
 ghost use Rattle.ddt_timeline.specs.Histories.{machine_of};
 ghost use Rattle.ddt_timeline.specs.Views.{history};
-ghost use Rattle.ddt_moves.specs.OtherEnds.{HasLooked, ends_for, is_grant, list_of, seen_by, sees_grant};
+ghost use Rattle.ddt_moves.specs.OtherEnds.{HasLooked, counted_in, due_cause, ends_for, if_breakpoint, is_grant, list_of};
+ghost use Rattle.ddt_moves.specs.OtherEnds.{seen_by, sees_grant};
+ghost use Rattle.ddt_moves.specs.OtherEnds.{counters_of as counters_in};
+ghost use Rattle.ddt_moves.specs.Visits.{counters, first_due, stepped};
 
 use crate::run_stops::Cause;
 use crate::stop_lists::StopList;
 use crate::turns::{NUMBERS, pcs_of};
-use crate::visits::{Counter, counted_cause, counters_of};
+use crate::visits::{Counter, counted_cause, counters_of, see_rounds};
 use concrete_machine::Machine;
 use ddt_timeline::{Timeline, Watch};
 use lock_queue::{Name, Request};
@@ -88,7 +91,8 @@ fn first_caller(
     pcs: &[Option<Address>; NUMBERS],
     ran: Option<u8>,
 ) -> Result<Option<Cause>, AllocError>
-    ensures { IfOk result (λ cause. ends_for list.now machine.now false cause ≡ true) }
+    ensures ends { IfOk result (λ cause. ends_for list.now machine.now false cause ≡ true) }
+    ensures other { IfOk result (λ cause. if_breakpoint cause ≡ None) }
 {
     let Some(name) = &list.lock else {
         return Ok(None);
@@ -122,17 +126,13 @@ fn first_counted(
     ran: Option<u8>,
     list: &StopList,
 ) -> Option<Cause>
-    ensures { IfSome result (λ cause. (granted : Bool) → ends_for list.now machine.now granted (Some cause) ≡ true) }
+    ensures ends { IfSome result (λ cause. (granted : Bool) → ends_for list.now machine.now granted (Some cause) ≡ true) }
+    ensures seen { counters.new ≡ map (stepped machine.now ran) counters.old }
+    ensures first { result ≡ counted_in list.now machine.now (first_due machine.now ran counters.old) }
 {
     // A cause may hold a word: the prover wants its type to be named.
     let _word: Option<Word> = None;
-    let mut first = None;
-    for counter in counters.iter_mut() {
-        if counter.see_round(machine, ran) && first.is_none() {
-            first = Some(counter.slot());
-        }
-    }
-    match first {
+    match see_rounds(counters, machine, ran) {
         Some(slot) => counted_cause(machine, list, slot),
         None => None,
     }
@@ -143,6 +143,7 @@ impl<'a> LockWatch<'a> {
     pub fn new(timeline: &Timeline, list: &'a StopList) -> Result<Self, AllocError>
         ensures list { IfOk result (λ watch. list_of watch ≡ list.now) }
         ensures seen { IfOk result (λ watch. seen_by watch ≡ (machine_of (history timeline.now)).world.requests) }
+        ensures counters { IfOk result (λ watch. counters_in watch ≡ counters (history timeline.now) list.now) }
     {
         let (alloc, machine) = (timeline.alloc(), timeline.machine());
         Ok(LockWatch {
@@ -163,6 +164,7 @@ impl<'a> LockWatch<'a> {
         ensures seen { IfOk result (λ sees. sees ≡ false → (list_of self.old).grants ≡ true
             → seen_by self.new ≡ machine.now.world.requests) }
         ensures kept { IfOk result (λ sees. sees ≡ true → seen_by self.new ≡ seen_by self.old) }
+        ensures counters { counters_in self.new ≡ counters_in self.old }
     {
         if !self.list.grants {
             return Ok(false);
@@ -182,6 +184,8 @@ impl<'a> LockWatch<'a> {
         ensures seen { IfOk result (λ cause. is_some cause ≡ false → (list_of self.old).grants ≡ true
             → seen_by self.new ≡ machine.now.world.requests) }
         ensures kept { IfOk result (λ cause. is_grant cause ≡ true → seen_by self.new ≡ seen_by self.old) }
+        ensures counters { counters_in self.new ≡ map (stepped machine.now ran) (counters_in self.old) }
+        ensures due { IfOk result (λ cause. if_breakpoint cause ≡ due_cause self.old machine.now ran) }
     {
         let counted = first_counted(self.counters.as_mut_slice(), machine, ran, self.list);
         if counted.is_some() {
@@ -200,7 +204,7 @@ impl<'a> LockWatch<'a> {
 impl Watch for LockWatch<'_> {
     ghost looks = { λ watch. true };
 
-    ghost Asks = { λ old new s _ ends. HasLooked old new s ends };
+    ghost Asks = { λ old new s ran ends. HasLooked old new s ran ends };
 
     fn looks_at_rounds(&self) -> bool {
         true

@@ -6,8 +6,9 @@ ghost use Rattle.ddt_timeline.specs.Stops.{stops_of};
 ghost use Rattle.ddt_timeline.specs.Timelines.{ticks_in};
 ghost use Rattle.ddt_timeline.specs.Views.{history};
 ghost use Rattle.ddt_moves.specs.OtherEnds.{is_grant, lines_behind, seen_by};
-ghost use Rattle.ddt_moves.specs.RunEnds.{IsEnd, IsWatchEnd, stop_behind};
+ghost use Rattle.ddt_moves.specs.RunEnds.{IsCountedEnd, IsEnd, IsWatchEnd, stop_behind};
 ghost use Rattle.ddt_moves.specs.RunStops.{cause_at};
+ghost use Rattle.ddt_moves.specs.Visits.{counters};
 
 use crate::lock_watch::LockWatch;
 use crate::run_stops::{Cause, RunStops};
@@ -66,6 +67,8 @@ pub fn run_to(
 ) -> Result<RunEnd, AllocError>
     ensures happened { IfOk result (λ end. history timeline.new ≡ done (history timeline.old) (replicate end.made one_step)) }
     ensures end { IfOk result (λ end. IsEnd (machine_of (history timeline.old)) stops.old list.now most end) }
+    ensures counted { IfOk result (λ end.
+        IsCountedEnd (machine_of (history timeline.old)) (counters (history timeline.old) list.now) stops.old list.now end) }
     ensures lines { IfOk result (λ end. is_grant end.cause ≡ true
         → stop_behind stops.old.stops.items (machine_of (history timeline.old)) end.made ≡ None
         → string_bytes grants.new
@@ -95,6 +98,8 @@ fn run_watched(
 ) -> Result<RunEnd, AllocError>
     ensures happened { IfOk result (λ end. history timeline.new ≡ done (history timeline.old) (replicate end.made one_step)) }
     ensures end { IfOk result (λ end. IsEnd (machine_of (history timeline.old)) stops.old list.now most end) }
+    ensures counted { IfOk result (λ end.
+        IsCountedEnd (machine_of (history timeline.old)) (counters (history timeline.old) list.now) stops.old list.now end) }
     ensures lines { IfOk result (λ end. is_grant end.cause ≡ true
         → stop_behind stops.old.stops.items (machine_of (history timeline.old)) end.made ≡ None
         → string_bytes grants.new

@@ -15,4 +15,4 @@ counted_ends list s other (Some cause) same counted =
 
 pub returns-then-ends_start : goal.returns-then-ends_start
 returns-then-ends_start c =
-    counted_ends c.args.list.now _ _ c.counted_cause.result c.machine-machine.ensures c.counted_cause.ensures
+    counted_ends c.args.list.now _ _ c.counted_cause.result c.machine-machine.ensures c.counted_cause.ensures.ends
