@@ -3,3 +3,4 @@ mod VisitLemmas
 mod WatchLemmas
 mod CounterLemmas
 mod EndLemmas
+mod TurnLemmas

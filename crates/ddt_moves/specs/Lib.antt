@@ -5,4 +5,5 @@ pub mod RunEnds
 pub mod RunStops
 pub mod Starts
 pub mod StopLists
+pub mod Turns
 pub mod Visits

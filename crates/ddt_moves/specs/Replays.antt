@@ -1,5 +1,5 @@
 -- What has happened to a machine, made once more, and what is found in its steps (this project's profile).
-use Rattle.std.specs.Prelude.{◌≡◌, ◌≤◌, ◌-◌, ◌^◌, ◌++◌, ℕ, nat_lt, not, min, Bool, true, false, if◌then◌else◌}
+use Rattle.std.specs.Prelude.{◌≡◌, ◌≤◌, ◌-◌, ◌^◌, ◌++◌, ℕ, zero, suc, nat_lt, not, min, Bool, true, false, if◌then◌else◌}
 use Rattle.std.specs.Prelude.{List, [], ◌∷◌, replicate, Option, Some, IfSome}
 use Rattle.machine.specs.Machine.{S}
 use Rattle.machine.specs.Views.{job_view, word_in}
@@ -34,6 +34,18 @@ from_step (e ∷ es) = if nat_lt 0 (steps_of e) then e ∷ es else from_step es
 abbrev pub before_step : List Entry → S → S
 before_step [] s = s
 before_step (e ∷ es) s = if nat_lt 0 (steps_of e) then s else before_step es (made s e)
+
+-- the single things behind the first so many steps of some
+abbrev pub behind_steps : ℕ → List Entry → List Entry
+behind_steps zero es = es
+behind_steps (suc n) [] = []
+behind_steps (suc n) (e ∷ es) = behind_steps (if nat_lt 0 (steps_of e) then n else suc n) es
+
+-- the state behind the first so many steps of some single things, or behind them all where they have fewer
+abbrev pub after_steps : ℕ → List Entry → S → S
+after_steps zero es s = s
+after_steps (suc n) [] s = s
+after_steps (suc n) (e ∷ es) s = after_steps (if nat_lt 0 (steps_of e) then n else suc n) es (made s e)
 
 -- how many steps some things have, or 2 ^ 64 - 1 where there are more
 abbrev pub counted : List Entry → ℕ

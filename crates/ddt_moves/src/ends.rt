@@ -1,7 +1,11 @@
 //! Where jobs ended.
 
-use crate::past_steps::last_turns;
-use crate::turns::turn_at;
+ghost use Rattle.std.specs.Prelude.{◌≡◌, IfOk};
+ghost use Rattle.ddt_timeline.specs.Views.{history};
+ghost use Rattle.ddt_moves.specs.Turns.{address_before, ended_in, last_pc_in};
+
+use crate::replays::Replay;
+use crate::turns::{is_job, pc_of};
 use ddt_timeline::Timeline;
 use job_sched::Stop;
 use ka_cpu::StopReason;
@@ -11,26 +15,26 @@ use word36::Address;
 /// What is added to an address for the one before it.
 const ONE_BACK: u32 = 0o777_777;
 
-/// The PC of a job before its last turn. The last step is looked at first: it is the one where the job just ended a run.
-fn last_pc(timeline: &Timeline, job: u8) -> Result<Option<Address>, AllocError> {
-    let last = timeline.steps().saturating_sub(1);
-    if let Some((number, address)) = turn_at(timeline, last)? {
-        if number == job {
-            return Ok(Address::try_new(address));
+/// The PC of a job before its last turn; `None` where it had none.
+fn last_pc(timeline: &Timeline, job: u8) -> Result<Option<Address>, AllocError>
+    ensures { IfOk result (λ pc. pc ≡ last_pc_in (history timeline.now) job) }
+{
+    let mut replay = Replay::of(timeline)?;
+    let mut last = None;
+    while replay.go_before_step() {
+        let pc = pc_of(replay.machine(), job);
+        if is_job(replay.step(), job) {
+            last = pc;
         }
     }
-    let turns = last_turns(timeline, job, 1)?;
-    let Some(steps) = turns.first() else {
-        return Ok(None);
-    };
-    match turn_at(timeline, steps)? {
-        Some((_, address)) => Ok(Address::try_new(address)),
-        None => Ok(None),
-    }
+    replay.end();
+    Ok(last)
 }
 
 /// The address of the EXIT, EXIT 1 or HALT that stopped a job; `None` where none of these did.
-pub fn ended_at(timeline: &Timeline, job: u8) -> Result<Option<Address>, AllocError> {
+pub fn ended_at(timeline: &Timeline, job: u8) -> Result<Option<Address>, AllocError>
+    ensures { IfOk result (λ address. address ≡ ended_in (history timeline.now) job) }
+{
     let Some(view) = timeline.machine().job(job) else {
         return Ok(None);
     };

@@ -1,13 +1,16 @@
 //! Searches in the steps that were made.
 
-ghost use Rattle.std.specs.Prelude.{◌≡◌, IfOk, not};
+ghost use Rattle.std.specs.Prelude.{◌≡◌, ◌≤◌, ◌∷◌, ◌++◌, [], IfOk, OnOk, length, not, slice_get};
 ghost use Rattle.ddt_timeline.specs.Stops.{is_word};
 ghost use Rattle.ddt_timeline.specs.Views.{history};
-ghost use Rattle.ddt_moves.specs.Replays.{IsLastIn, changes, newer, stood};
+ghost use Rattle.ddt_moves.specs.Replays.{IsLastIn, changes, machine_in, newer, steps_made, stood, to_come};
+ghost use Rattle.ddt_moves.specs.Turns.{kept, last_of, states_before, turns_from, turns_in};
 
 use crate::replays::Replay;
+use crate::turns::is_job;
 use ddt_timeline::{Timeline, stands_at};
 use std::alloc::{AllocError, Global};
+use std::collections::VecDeque;
 use word36::{Address, Word};
 
 /// A number in place of an earlier one, where something held.
@@ -66,40 +69,37 @@ pub fn last_write(timeline: &Timeline, job: u8, address: u32) -> Result<Option<u
     Ok(last)
 }
 
-/// The last turns of a job: how many steps were made before each.
+/// The last turns of a job: how many steps were made before each, the oldest first.
 #[derive(Drop)]
 pub struct Turns {
-    /// The steps before each turn, in a ring.
-    steps: Vec<u64>,
-    /// The position of the oldest turn.
-    oldest: usize,
+    steps: VecDeque<u64>,
 }
 
 impl Turns {
     /// How many steps were made before the first of them, if there are any.
-    pub fn first(&self) -> Option<u64> {
-        self.steps.as_slice().get(self.oldest).copied()
+    pub fn first(&self) -> Option<u64>
+        ensures { result ≡ slice_get (kept self.now) 0 }
+    {
+        self.steps.front().copied()
     }
 
-    /// Adds a turn, in place of the oldest where there are `most` already.
-    fn keep(&mut self, most: usize, steps: u64) -> Result<(), AllocError> {
-        if self.steps.len() < most {
-            self.steps.push(steps)?;
-            return Ok(());
-        }
-        if let Some(oldest) = self.steps.get_mut(self.oldest) {
-            *oldest = steps;
-        }
-        self.oldest = self.oldest.saturating_add(1);
-        if self.oldest >= most {
-            self.oldest = 0;
+    /// Adds a turn, and lets the oldest go where there are more than `most`.
+    fn keep(&mut self, most: usize, steps: u64) -> Result<(), AllocError>
+        requires { length (kept self.old) ≤ most }
+        ensures { OnOk result (kept self.new ≡ last_of most (kept self.old ++ steps ∷ [])) }
+    {
+        self.steps.push_back(steps)?;
+        if self.steps.len() > most {
+            self.steps.pop_front();
         }
         Ok(())
     }
 }
 
-/// The last turns of a job, `most` at most.
-pub fn last_turns(timeline: &Timeline, job: u8, most: usize) -> Result<Turns, AllocError> {
+/// The last turns of a job, `most` at most; none where that is 0.
+pub fn last_turns(timeline: &Timeline, job: u8, most: usize) -> Result<Turns, AllocError>
+    ensures { IfOk result (λ turns. kept turns ≡ last_of most (turns_in (history timeline.now) job)) }
+{
     let mut replay = Replay::of(timeline)?;
     let turns = turns_of(timeline.alloc(), &mut replay, job, most);
     replay.end();
@@ -112,17 +112,16 @@ fn turns_of(
     replay: &mut Replay<'_>,
     job: u8,
     most: usize,
-) -> Result<Turns, AllocError> {
+) -> Result<Turns, AllocError>
+    ensures { IfOk result (λ turns. kept turns
+        ≡ last_of most (turns_from job (steps_made replay.old) (states_before (to_come replay.old) (machine_in replay.old)))) }
+{
     let mut turns = Turns {
-        steps: Vec::new(alloc),
-        oldest: 0,
+        steps: VecDeque::new(alloc),
     };
-    for _ in 0..u64::MAX {
-        if !replay.go_before_step() {
-            break;
-        }
+    while replay.go_before_step() {
         let steps = replay.steps();
-        if replay.step() == Some(job) {
+        if is_job(replay.step(), job) {
             turns.keep(most, steps)?;
         }
     }

@@ -7,7 +7,8 @@ ghost use Rattle.ddt_timeline.specs.Histories.{one_step, things_of};
 ghost use Rattle.ddt_timeline.specs.declared.entries.Entry.{Entry};
 ghost use Rattle.ddt_timeline.specs.Stops.{round};
 ghost use Rattle.ddt_timeline.specs.Views.{history};
-ghost use Rattle.ddt_moves.specs.Replays.{before_step, from_step, is_ready, machine_in, steps_made, to_come};
+ghost use Rattle.ddt_timeline.specs.Timelines.{steps_in};
+ghost use Rattle.ddt_moves.specs.Replays.{after_steps, before_step, behind_steps, from_step, is_ready, machine_in, steps_made, to_come};
 
 use concrete_machine::Machine;
 use ddt_timeline::{Entry, Timeline, let_go, perform, round};
@@ -134,16 +135,20 @@ impl<'a> Replay<'a> {
     }
 
     /// Makes steps, and what happens between them, until so many have been made since boot or none is left.
-    pub fn skip_to(&mut self, steps: u64) {
-        for _ in 0..u64::MAX {
-            let wanted = steps.saturating_sub(self.steps);
-            if wanted == 0 || !self.go_before_step() {
+    pub fn skip_to(&mut self, steps: u64)
+        ensures to_come { to_come self.new ≡ behind_steps (steps - steps_made self.old) (to_come self.old) }
+        ensures machine { machine_in self.new ≡ after_steps (steps - steps_made self.old) (to_come self.old) (machine_in self.old) }
+        ensures steps { steps_made self.new
+            ≡ steps_made self.old + min (steps - steps_made self.old) (steps_in (to_come self.old)) }
+    {
+        while self.steps < steps {
+            if !self.go_before_step() {
                 return;
             }
-            let count = wanted.min(u64::from(self.left)) as u32;
+            let count = (steps - self.steps).min(u64::from(self.left)) as u32;
             self.machine.steps(count, true);
             self.left -= count;
-            self.steps = self.steps.saturating_add(u64::from(count));
+            self.steps += u64::from(count);
         }
     }
 }
