@@ -1,10 +1,10 @@
 #!/usr/bin/env python3
 """Runs `macro` on sources that no file of runs has, and `lockmon asm` on what it writes.
 
-- Each source of tests/assembler that `lockmon asm` takes: `macro` takes it too, all but one, and what it writes has the same
-  image.
+- Each source of tests/assembler that `lockmon asm` takes: `macro` takes it too, and what it writes has the same image. Where
+  a listing is wanted, for which its own assembler reads the source, it writes the same.
 - What `macro` writes of the sources of tests/macro and examples/: `lockmon asm` takes it, and `macro` writes it again as it
-  stands.
+  stands, also where a listing is wanted.
 - A source of 100,000 lines.
 - Those sources with random bytes in them, put in, taken out and doubled: `macro` ends with a source or with errors, and
   what it writes is taken.
@@ -34,10 +34,11 @@ SOURCE = re.compile(rb"(?:[^?\n][^\n]*\n)* END [0-7]+\n")
 ERRORS = re.compile(rb"(?:\?MACRO [0-9]+:[0-9]+ [A-Z-] [^\n]+\n(?: in [^\n]+ line [0-9]+\n)*(?: and [0-9]+ more\n)?)+(?:and [0-9]+ more errors\n)?")
 
 
-# In the one source of tests/assembler with this line the place goes far above all addresses and comes back, which `macro`
-# refuses: it keeps no place that is so far away.
+# In the one source of tests/assembler with this line the place goes far above all addresses and comes back. MACRO-10 keeps no
+# place that is so far away, so that there is no listing.
 FAR_AWAY = b"LOC .-^D10000000000000000000000000000000000000000+140"
-REFUSED_AFAR = 1, b"?MACRO 3:2 A a place is 0 to 777777 (octal)\n"
+NOT_LISTED = 3, b""
+LISTED = ["--list", "/dev/null"]
 
 
 class Programs:
@@ -67,7 +68,8 @@ class Programs:
             return f"status {status} and no source: {output[:200]}"
         if self.image(output) is None:
             return "`lockmon asm` does not take what is written"
-        return None if self.run("macro", [], output) == (0, output) else "what is written is written otherwise"
+        again = [self.run("macro", words, output) for words in ([], LISTED)]
+        return None if again == [(0, output)] * 2 else "what is written is written otherwise"
 
     def other_image(self, source):
         """Gives what is wrong with a source of the subset, if anything is."""
@@ -75,9 +77,10 @@ class Programs:
         if image is None:
             return None
         status, output = self.run("macro", [], source)
-        if FAR_AWAY in source and (status, output) == REFUSED_AFAR:
-            return None
-        return None if status == 0 and self.image(output) == image else f"another image, status {status}: {output[:200]}"
+        if status != 0 or self.image(output) != image:
+            return f"another image, status {status}: {output[:200]}"
+        listed = self.run("macro", LISTED, source)
+        return None if listed == (NOT_LISTED if FAR_AWAY in source else (0, output)) else f"listed otherwise: {listed}"
 
 
 def subset():

@@ -1,1 +1,3 @@
+pub mod FaultKeys
 pub mod LineEnds
+pub mod LineSteps

@@ -1,2 +1,4 @@
+pub mod Listings
+pub mod Plain
 pub mod Rows
 pub mod Shown

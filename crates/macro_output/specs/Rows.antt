@@ -1,5 +1,6 @@
 -- The rows of a listing as text. A text is the list of its ASCII codes.
-use Rattle.std.specs.Prelude.{ℕ, Bool, ◌||◌, List, [], ◌∷◌, ◌++◌, Option, Some, None, codes, decimal, replicate, nat_eq, nat_lt, if◌then◌else◌}
+use Rattle.std.specs.Prelude.{ℕ, Bool, ◌||◌, List, [], ◌∷◌, ◌++◌, Option, Some, None, codes, decimal, replicate, nat_eq, nat_lt}
+use Rattle.std.specs.Prelude.{if◌then◌else◌}
 use Rattle.std.specs.List.{flat_map}
 use Rattle.word36.specs.Octal.{octal, word_text}
 use Rattle.macro_state.specs.declared.listing.Row.{Row}

@@ -3,12 +3,15 @@
 
 mod cross;
 mod listings;
+mod plain;
 mod reports;
 mod rows;
 mod shown;
+mod subset;
 mod written;
 
 pub use cross::push_cross;
 pub use listings::push_listing;
+pub use plain::{Plain, plain_source};
 pub use reports::push_faults;
 pub use written::{Written, source_of};

@@ -1,4 +1,6 @@
 //! What is wrong with a source.
+ghost use Rattle.std.specs.Prelude.{IfOk};
+ghost use Rattle.macro_output.specs.Listings.{InOrder};
 
 use macro_faults::{Report, push_report};
 use macro_stream::Around;
@@ -17,7 +19,9 @@ struct FaultKey {
 }
 
 /// The faults by line and column.
-pub fn sorted_faults(alloc: Global, faults: &[Report]) -> Result<Vec<Report>, AllocError> {
+pub fn sorted_faults(alloc: Global, faults: &[Report]) -> Result<Vec<Report>, AllocError>
+    ensures { IfOk result (λ sorted. InOrder faults.now sorted.items) }
+{
     let mut keys = Vec::new(alloc);
     for (index, report) in faults.iter().enumerate() {
         keys.push(FaultKey {

@@ -1,7 +1,8 @@
 //! The rows of a listing as text.
 ghost use Rattle.std.specs.Prelude.{◌≡◌, ◌++◌, ◌≤◌, OnOk, take, drop, length, replicate, codes};
 ghost use Rattle.std.specs.List.{flat_map};
-ghost use Rattle.macro_output.specs.Rows.{blank_before, number_text, row_text, columns, is_end_blank, without_end, line_text, own_line, rows_text};
+ghost use Rattle.macro_output.specs.Rows.{blank_before, number_text, row_text, columns, is_end_blank, without_end, line_text};
+ghost use Rattle.macro_output.specs.Rows.{own_line, rows_text};
 
 use macro_state::Row;
 use script_io::{push_decimal, push_word};
