@@ -4,3 +4,5 @@ mod WatchLemmas
 mod CounterLemmas
 mod EndLemmas
 mod TurnLemmas
+mod StartLemmas
+mod TerminalLemmas

@@ -15,10 +15,9 @@ use Rattle.ddt_timeline.specs.Timelines.{made, steps_of}
 use Rattle.ddt_timeline.specs.declared.entries.Entry.{Entry}
 use Rattle.ddt_timeline.specs.declared.stops.Stop.{Stop}
 use Rattle.ddt_timeline.specs.declared.stops.Stop.TheVariants.{At}
-use Rattle.ddt_moves.specs.OtherEnds.{counted_at, counted_in, stands}
+use Rattle.ddt_moves.specs.OtherEnds.{cause_of_breakpoint, counted_at, counted_in, stands}
 use Rattle.ddt_moves.specs.Replays.{before_step, from_step}
 use Rattle.ddt_moves.specs.RunEnds.{cause_at_slot}
-use Rattle.ddt_moves.specs.Starts.{cause_of_breakpoint}
 use Rattle.ddt_moves.specs.StopLists.{counts, or_slot}
 use Rattle.ddt_moves.specs.Visits.{behind, behind_all, behind_one, comes_due, counter_at, counter_if, counters, counters_after}
 use Rattle.ddt_moves.specs.Visits.{counters_from, due_behind, first_due, is_due, seen_before, slot_if, stepped}

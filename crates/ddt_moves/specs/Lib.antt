@@ -1,9 +1,11 @@
 pub mod Edits
+pub mod Input
 pub mod OtherEnds
 pub mod Replays
 pub mod RunEnds
 pub mod RunStops
 pub mod Starts
 pub mod StopLists
+pub mod Terminals
 pub mod Turns
 pub mod Visits

@@ -1,5 +1,6 @@
 -- What ends a run besides its stops: grants, calls on a lock, and breakpoints that count (this project's profile).
-use Rattle.std.specs.Prelude.{◌≡◌, ◌==◌, ◌+◌, ◌-◌, ◌&&◌, ◌||◌, ℕ, zero, suc, nat_lt, Bool, true, false, is_some, not, List, [], map, slice_index_or}
+use Rattle.std.specs.Prelude.{◌≡◌, ◌==◌, ◌+◌, ◌-◌, ◌&&◌, ◌||◌, ℕ, zero, suc, nat_lt, Bool, true, false, is_some, not}
+use Rattle.std.specs.Prelude.{List, [], map, slice_index_or}
 use Rattle.std.specs.Prelude.{Option, Some, None, if◌then◌else◌}
 use Rattle.lock_queue.specs.Queue.{some_behind}
 use Rattle.lock_queue.specs.declared.request.Request.{Request}
@@ -35,9 +36,14 @@ abbrev pub counts_at : S → ℕ → ℕ → Option Breakpoint → Bool
 counts_at s job address (Some b) = ((b.job == job && b.address == address) && nat_lt 1 b.times) && stands s b
 counts_at s job address None = false
 
--- why a run ends at a breakpoint in a slot, if it is set and counts, and its job stands there
+-- why a run ends at a breakpoint of this number, if it is set
+abbrev pub cause_of_breakpoint : ℕ → Option Breakpoint → Option Cause
+cause_of_breakpoint number (Some b) = Some (cause.Breakpoint number b.job b.address)
+cause_of_breakpoint number None = None
+
+-- and why at one in a slot, if it is set and counts, and its job stands there
 abbrev pub counted_at : S → ℕ → Option Breakpoint → Option Cause
-counted_at s slot (Some b) = if nat_lt 1 b.times && stands s b then Some (cause.Breakpoint (slot + 1) b.job b.address) else None
+counted_at s slot (Some b) = if nat_lt 1 b.times && stands s b then cause_of_breakpoint (slot + 1) (Some b) else None
 counted_at s slot None = None
 
 abbrev pub counted_cause : StopList → S → ℕ → Option Cause

@@ -1,6 +1,7 @@
 -- Jobs that the debugger starts or continues (this project's profile).
-use Rattle.std.specs.Prelude.{ℕ, ◌+◌, ◌&&◌, nat_le, nat_lt, Bool, true, false, is_some, not, List, [], ◌∷◌, slice_index_or}
+use Rattle.std.specs.Prelude.{ℕ, ◌+◌, ◌&&◌, ◌||◌, min, nat_le, nat_lt, Bool, true, false, is_some, not, List, [], ◌∷◌, slice_index_or}
 use Rattle.std.specs.Prelude.{Option, Some, None, if◌then◌else◌}
+use Rattle.std.specs.List.{list_any, range_with_len}
 use Rattle.job_sched.specs.declared.job.Stop.{Stop}
 use Rattle.job_sched.specs.declared.job.Stop.TheVariants as stop
 use Rattle.machine.specs.Machine.{S}
@@ -8,9 +9,8 @@ use Rattle.machine.specs.Views.{job_view}
 use Rattle.machine.specs.declared.view.JobView.{JobView}
 use Rattle.ddt_timeline.specs.declared.entries.Entry.TheVariants.{Start, Continue}
 use Rattle.ddt_timeline.specs.Histories.{History, done, machine_of}
-use Rattle.ddt_moves.specs.OtherEnds.{stands}
+use Rattle.ddt_moves.specs.OtherEnds.{cause_of_breakpoint, stands}
 use Rattle.ddt_moves.specs.declared.run_stops.Cause.{Cause}
-use Rattle.ddt_moves.specs.declared.run_stops.Cause.TheVariants as cause
 use Rattle.ddt_moves.specs.declared.stop_lists.Breakpoint.{Breakpoint}
 
 -- whether a job that is stopped so was not started yet
@@ -51,6 +51,41 @@ gone_on n h = if may_continue (job_view (machine_of h).world n) then done h (Con
 abbrev pub begun : ℕ → History → History
 begun n h = if is_loaded (job_view (machine_of h).world n) then done h (Start n ∷ []) else gone_on n h
 
+-- ---- the jobs that were not started yet, or else the open one
+
+-- whether a job was not started yet
+abbrev pub is_new : History → ℕ → Bool
+is_new h n = is_loaded (job_view (machine_of h).world n)
+
+-- what has happened where a job was to be started if it was not yet
+abbrev pub started_if_new : ℕ → History → History
+started_if_new n h = if is_new h n then done h (Start n ∷ []) else h
+
+-- and where some were, one after the other: each is seen as it stands when its turn comes
+abbrev pub all_started : List ℕ → History → History
+all_started [] h = h
+all_started (n ∷ ns) h = all_started ns (started_if_new n h)
+
+-- whether a job can be started now
+abbrev pub may_start : History → ℕ → Bool
+may_start h n = is_stopped (job_view (machine_of h).world n)
+
+-- what has happened where a job was to be started if it was stopped
+abbrev pub started_if_stopped : ℕ → History → History
+started_if_stopped n h = if may_start h n then done h (Start n ∷ []) else h
+
+-- the numbers of the jobs at so many lines: from 1 on, up to 254 at most
+abbrev pub jobs_at : ℕ → List ℕ
+jobs_at lines = range_with_len 1 (min 254 lines)
+
+-- what has happened where these jobs were to be started, and the open one where there was none that was not started yet
+abbrev pub jobs_started : ℕ → ℕ → History → History
+jobs_started lines own h = if list_any (is_new h) (jobs_at lines) then all_started (jobs_at lines) h else started_if_stopped own h
+
+-- whether one was started
+abbrev pub is_some_started : ℕ → ℕ → History → Bool
+is_some_started lines own h = list_any (is_new h) (jobs_at lines) || may_start h own
+
 -- ---- jobs that stand where runs stop, before any step
 
 -- whether a breakpoint is set for one of the jobs from first to last and stops each time, and its job stands there
@@ -58,11 +93,6 @@ abbrev pub holds_at_start : S → ℕ → ℕ → Option Breakpoint → Bool
 holds_at_start s first last (Some b) = ((nat_le first b.job && nat_le b.job last) && not (nat_lt 1 b.times)) && stands s b
 holds_at_start s first last None = false
 
--- why a run ends at a breakpoint of this number
-abbrev pub cause_of_breakpoint : ℕ → Option Breakpoint → Option Cause
-cause_of_breakpoint number (Some b) = Some (cause.Breakpoint number b.job b.address)
-cause_of_breakpoint number None = None
-
--- and at that in a slot
+-- why a run ends at the breakpoint in a slot
 abbrev pub cause_in : List (Option Breakpoint) → ℕ → Option Cause
 cause_in slots slot = cause_of_breakpoint (slot + 1) (slice_index_or slots slot None)

@@ -112,6 +112,11 @@ abbrev pub first_due : S → Option ℕ → List Counter → Option ℕ
 first_due s ran [] = None
 first_due s ran (c ∷ cs) = or_slot (slot_if (comes_due s ran c) c.slot) (first_due s ran cs)
 
+-- the slot of the first of them that ends a run before the first step, where the jobs from first to last were started just now
+abbrev pub first_due_at_start : ℕ → ℕ → List Counter → Option ℕ
+first_due_at_start first last [] = None
+first_due_at_start first last (c ∷ cs) = or_slot (slot_if (is_due_at_start first last c) c.slot) (first_due_at_start first last cs)
+
 -- some counters behind so many rounds from a state on
 abbrev pub counters_after : S → List Counter → ℕ → List Counter
 counters_after s cs zero = cs

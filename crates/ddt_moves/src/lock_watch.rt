@@ -68,7 +68,8 @@ pub(crate) fn first_standing(
     last: u8,
     list: &StopList,
 ) -> Result<Option<Cause>, AllocError>
-    ensures { IfOk result (λ cause. ends_for list.now machine.now false cause ≡ true) }
+    ensures ends { IfOk result (λ cause. ends_for list.now machine.now false cause ≡ true) }
+    ensures other { IfOk result (λ cause. if_breakpoint cause ≡ None) }
 {
     let Some(name) = &list.lock else {
         return Ok(None);

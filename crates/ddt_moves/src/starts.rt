@@ -5,8 +5,10 @@ ghost use Rattle.machine.specs.Views.{job_view};
 ghost use Rattle.ddt_timeline.specs.Histories.{done, machine_of};
 ghost use Rattle.ddt_timeline.specs.Views.{history};
 ghost use Rattle.ddt_timeline.specs.declared.entries.Entry.TheVariants.{Start};
-ghost use Rattle.ddt_moves.specs.Starts.{begun, cause_in, gone_on, holds_at_start, is_loaded, is_stopped, may_continue};
-ghost use Rattle.ddt_moves.specs.OtherEnds.{ends_for};
+ghost use Rattle.ddt_moves.specs.Starts.{begun, cause_in, gone_on, holds_at_start, is_loaded, is_some_started, is_stopped, jobs_started};
+ghost use Rattle.ddt_moves.specs.Starts.{may_continue};
+ghost use Rattle.ddt_moves.specs.OtherEnds.{counted_cause, ends_for, if_breakpoint};
+ghost use Rattle.ddt_moves.specs.Visits.{counters, first_due_at_start};
 
 use crate::lock_watch::first_standing;
 use crate::run_stops::Cause;
@@ -58,7 +60,10 @@ fn start(timeline: &mut Timeline, number: u8) -> Result<(), AllocError>
 
 /// Starts the jobs at the first `lines` terminal lines that were not started yet. Where there is none, it starts the open job;
 /// false where that one is not stopped.
-pub fn start_jobs(timeline: &mut Timeline, lines: u8, open: u8) -> Result<bool, AllocError> {
+pub fn start_jobs(timeline: &mut Timeline, lines: u8, open: u8) -> Result<bool, AllocError>
+    ensures happened { OnOk result (history timeline.new ≡ jobs_started lines «open» (history timeline.old)) }
+    ensures any { IfOk result (λ any. any ≡ is_some_started lines «open» (history timeline.old)) }
+{
     let mut any = false;
     for number in 1..lines.saturating_add(1) {
         if is_loaded(timeline.machine(), number) {
@@ -147,7 +152,12 @@ fn other_cause(
     last: u8,
     list: &StopList,
 ) -> Result<Option<Cause>, AllocError>
-    ensures { IfOk result (λ cause. ends_for list.now (machine_of (history timeline.now)) false cause ≡ true) }
+    ensures ends { IfOk result (λ cause. ends_for list.now (machine_of (history timeline.now)) false cause ≡ true) }
+    ensures counted { IfOk result (λ cause.
+        IfSome (first_due_at_start first last (counters (history timeline.now) list.now))
+        (λ slot. cause ≡ counted_cause list.now (machine_of (history timeline.now)) slot)) }
+    ensures other { IfOk result (λ cause.
+        first_due_at_start first last (counters (history timeline.now) list.now) ≡ None → if_breakpoint cause ≡ None) }
 {
     let machine = timeline.machine();
     for counter in counters_of(timeline, list)?.as_slice() {
@@ -172,6 +182,13 @@ pub fn cause_at_start(
     ensures besides { IfOk result (λ cause.
         position (holds_at_start (machine_of (history timeline.now)) first last) list.now.breakpoints ≡ None
         → ends_for list.now (machine_of (history timeline.now)) false cause ≡ true) }
+    ensures counted { IfOk result (λ cause.
+        position (holds_at_start (machine_of (history timeline.now)) first last) list.now.breakpoints ≡ None
+        → IfSome (first_due_at_start first last (counters (history timeline.now) list.now))
+        (λ slot. cause ≡ counted_cause list.now (machine_of (history timeline.now)) slot)) }
+    ensures other { IfOk result (λ cause.
+        position (holds_at_start (machine_of (history timeline.now)) first last) list.now.breakpoints ≡ None
+        → first_due_at_start first last (counters (history timeline.now) list.now) ≡ None → if_breakpoint cause ≡ None) }
 {
     match first_at_start(timeline.machine(), &list.breakpoints, first, last) {
         Some(slot) => Ok(cause_in(&list.breakpoints, slot)),
