@@ -1,6 +1,6 @@
 #!/usr/bin/env bash
-# Host instructions of `macro` (callgrind, the difference of two lengths): for a line of the subset, and for a call of a
-# macro of five lines.
+# Host instructions of `macro` (callgrind, the difference of two lengths): for a line of a source of the subset, for the same
+# line behind an assignment, which is not in the subset, and for a call of a macro of five lines.
 set -eu
 cd "$(dirname "$0")"
 . ./counted.sh
@@ -26,6 +26,10 @@ for n in 10000 20000; do
     eval "lines_$n=$(lines $n | counted "$program")"
 done
 echo "$(((lines_20000 - lines_10000) / 10000)) host instructions a line"
+for n in 10000 20000; do
+    eval "more_$n=$({ echo 'A=1'; lines $n; } | counted "$program")"
+done
+echo "$(((more_20000 - more_10000) / 10000)) host instructions a line behind an assignment"
 for n in 1000 2000; do
     eval "calls_$n=$(calls $n | counted "$program")"
 done
