@@ -22,7 +22,7 @@ TRAIT = re.compile(r"^( *)(?:pub(?:\([a-z]+\))? )?trait (\w+)")
 
 # What the check says at a place of a file, and what it says where a proof file names what an edit took away.
 SAID = re.compile(r"^(note: )?(?:\./)?(\S+?):(\d+):\d+: (.*)")
-STALE = re.compile(r"has no field|is not in scope|has no `|was not admitted")
+STALE = re.compile(r"has no field|is not in scope|has no `|was not admitted|\(nearest: ")
 ENDED = re.compile(r"^only=(\d+) proved=(\d+)$", re.MULTILINE)
 
 
