@@ -12,6 +12,7 @@ use Rattle.lock_queue.specs.declared.request.Request.{Request}
 use Rattle.lock_queue.specs.Calls.{outcome_of}
 use Rattle.lock_queue.specs.Changes.{changed}
 use Rattle.lock_queue.specs.Dequeues.{has_wants, without_keys_of, is_of_job, has_id}
+use Rattle.lock_queue.specs.Jobs.{is_among, is_not_blocked_where, withdrawn_where}
 use Rattle.lock_queue.specs.Queue.{granted_behind, is_granted, chosen}
 
 -- a request, where it stays
@@ -62,3 +63,14 @@ woken_by size requests job call =
 -- the grants that are made when all requests of a job leave
 abbrev pub woken_by_release : List Request → ℕ → List Grant
 woken_by_release requests job = woken (left_of job DequeueAll) requests
+
+-- whether a job is notified of a new grant of this request where the requests by which some jobs wait leave, all judged by
+-- the list before any of them left: it is not granted, it stays, and it is granted behind those before it that stay
+abbrev pub is_woken_without : (ℕ → Bool) → List Request → Request → Bool
+is_woken_without waiters earlier r =
+    (is_notified_of r.kind && not (granted_behind earlier r))
+    && is_granted (withdrawn_where earlier waiters) (staying_if (is_not_blocked_where waiters earlier r) r)
+
+-- the grants that are made when the requests by which the jobs of a set wait leave
+abbrev pub woken_by_withdrawal : List Request → ℕ → List Grant
+woken_by_withdrawal requests jobs = map grant_of (chosen (is_woken_without (is_among jobs)) requests)

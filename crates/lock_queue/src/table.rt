@@ -4,7 +4,7 @@ ghost use Rattle.std.specs.List.{list_all};
 ghost use Rattle.word36.specs.declared.sizes.TheConstants.{JOBS, MOST_REQUESTS};
 ghost use Rattle.lock_queue.specs.declared.request.Request.{Request as RequestView};
 ghost use Rattle.lock_queue.specs.Calls.{outcome_of, requests_after, replies_to};
-ghost use Rattle.lock_queue.specs.Grants.{woken_by, woken_by_release};
+ghost use Rattle.lock_queue.specs.Grants.{woken_by, woken_by_release, woken_by_withdrawal};
 ghost use Rattle.lock_queue.specs.Jobs.{released, withdrawn, withdrawn_all, is_waiting_job, pending, job_notified, waits_for};
 ghost use Rattle.lock_queue.specs.Queue.{granted};
 ghost use Rattle.lock_queue.specs.StatusWords.{status_of};
@@ -70,6 +70,11 @@ pub trait LockTable: Drop {
     /// are judged by the list as it is before the first is removed.
     fn withdraw_all(&mut self, jobs: u64)
         ensures { requests self.new ≡ withdrawn_all (requests self.old) jobs };
+
+    /// Removes these requests in the same way, and fills in the grants that this makes.
+    fn withdraw_all_waking(&mut self, jobs: u64, woken: &mut Woken)
+        ensures requests { requests self.new ≡ withdrawn_all (requests self.old) jobs }
+        ensures woken { woken.new.items ≡ woken_by_withdrawal (requests self.old) jobs };
 
     /// Whether a job waits: it has a blocking request that is not granted.
     fn is_waiting(&self, job: u8) -> bool

@@ -16,7 +16,7 @@ use Rattle.lock_queue.specs.declared.want.Want.{Want}
 use Rattle.lock_queue.specs.Dequeues.{dequeue_where, has_wants, without_keys_of, without_named, dequeue_fault, dequeue_named, has_id, is_of_job}
 use Rattle.arrayvec.specs.ArrayVec.{ArrayVec}
 use Rattle.lock_queue.specs.declared.call.LockCall.TheVariants.{Modify, DequeueNamed, Enqueue, DequeueAll, DequeueId}
-use Rattle.lock_queue.specs.Grants.{left_of, staying_if, grant_of, is_notified_of, woken, unless_refused_grants, woken_by, woken_by_release}
+use Rattle.lock_queue.specs.Grants.{left_of, staying_if, grant_of, is_notified_of, woken, unless_refused_grants, woken_by, woken_by_release, woken_by_withdrawal}
 use Rattle.lock_table.specs.Changing.{IsChanged}
 use Rattle.lock_table.proofs.Reading.{filter_mapped}
 use Rattle.lock_table.specs.Departures.{IsLeft, LeavesBy, LeavesWhere, left_named, stays_beside, is_blocking_at, is_of}
@@ -32,7 +32,7 @@ use Rattle.std.proofs.lemmas.Bool.{eq-eqb, or_left, or_parts, or_right, ne_eqb}
 use Rattle.lock_queue.specs.declared.call.LockCall.{LockCall}
 use Rattle.lock_queue.proofs.GrantLaws.{left-labels, woken-enqueue}
 use Rattle.key_queues.specs.Waking.{rises}
-use Rattle.key_queues.proofs.Waking.{flags_tell_who_rises}
+use Rattle.key_queues.proofs.Waking.{flags_tell_who_rises, flags_tell_who_rises_without}
 use Rattle.lock_table.specs.Reads.{request_at, requests_at, MarksGrants, is_pending_entry}
 use Rattle.lock_table.specs.Raised.{grants_marked, is_raised}
 use Rattle.lock_table.specs.Flips.{Flipped, mark_at, flipped_if}
@@ -43,7 +43,7 @@ use Rattle.lock_queue.specs.declared.grant.Grant.{Grant}
 use Rattle.lock_queue.specs.declared.refusal.Refusal.{Refusal}
 use Rattle.lock_queue.specs.declared.refusal.Refusal.TheVariants.{NotPresent}
 use Rattle.lock_queue.specs.Calls.{outcome_of}
-use Rattle.lock_queue.specs.Jobs.{is_blocking, is_not_blocked_where, released, withdrawn_where, as_notified, is_interrupt, is_pending, notified_behind, job_notified}
+use Rattle.lock_queue.specs.Jobs.{is_among, is_blocking, is_not_blocked_where, released, withdrawn_where, as_notified, is_interrupt, is_pending, notified_behind, job_notified}
 use Rattle.word36.specs.declared.sizes.TheConstants.{MOST_REQUESTS}
 use Rattle.key_queues.proofs.Marks.{marks_choose}
 use Rattle.lock_table.proofs.Telling.{any_mapped, before_is}
@@ -215,39 +215,63 @@ flipped_all : (s t : Stored) (before after : List Bool) → AreRight t → Flipp
     → mark_at after x ≡ flipped_if (not (beq (entry_at s x).granted (entry_at t x).granted)) (mark_at before x)
 flipped_all s t before after right flipped x there = flipped x (grind (arith, there, some_wants (request_at t x) (right x there)))
 
-module _ (s t : Stored) (locks more : List Lock) (left : Request → Option Request) (before after : List Bool)
-    (labels : (r q : Request) → left r ≡ Some q → grant_of q ≡ grant_of r) (kinds : (r q : Request) → left r ≡ Some q → q.kind ≡ r.kind)
-    (leaves : LeavesBy left s t) (none : (x : ℕ) → mark_at before x ≡ false)
+-- where some slots stay in order, each with the job, the id and the kind of its request, the grants are those of the slots whose flags rise
+module _ (s t : Stored) (locks more : List Lock) (stays : ℕ → Bool) (before after : List Bool) (order : t.order ≡ filter stays s.order)
+    (label : (x : ℕ) → is_there x s.order ≡ true → stays x ≡ true → grant_of (request_at t x) ≡ grant_of (request_at s x))
+    (kind : (x : ℕ) → is_there x s.order ≡ true → stays x ≡ true → (request_at t x).kind ≡ (request_at s x).kind)
+    (none : (x : ℕ) → mark_at before x ≡ false)
     (flipped : (x : ℕ) → is_there x t.order ≡ true
     → mark_at after x ≡ flipped_if (not (beq (entry_at s x).granted (entry_at t x).granted)) (mark_at before x)) where
-  raised_is : (x : ℕ) → is_there x s.order ≡ true → leaves.stays x ≡ true → is_raised t after x ≡ rises (state_of s locks) (state_of t more) leaves.stays x
+  raised_is : (x : ℕ) → is_there x s.order ≡ true → stays x ≡ true → is_raised t after x ≡ rises (state_of s locks) (state_of t more) stays x
   raised_is x present stay =
-      let there : is_there x t.order ≡ true = ap (is_there x) leaves.order ∙ kept_there leaves.stays x s.order present stay in
+      let there : is_there x t.order ≡ true = ap (is_there x) order ∙ kept_there stays x s.order present stay in
       let same = same_test (entry_at s x).granted (entry_at t x).granted (is_notified_of (request_at s x).kind) in
-      let kind = kinds (request_at s x) (request_at t x) (leaves.left_is x present ∙ ap (λ b. staying_if b (request_at t x)) stay) in
-      rw (flipped x there, none x, kind, stay) same
+      rw (flipped x there, none x, kind x present stay, stay) same
 
   raised_all : (xs : List ℕ) → ((x : ℕ) → is_there x xs ≡ true → is_there x s.order ≡ true)
-      → map grant_of (requests_at t (filter (is_raised t after) (filter leaves.stays xs)))
-      ≡ map grant_of (requests_at s (filter (rises (state_of s locks) (state_of t more) leaves.stays) xs))
+      → map grant_of (requests_at t (filter (is_raised t after) (filter stays xs)))
+      ≡ map grant_of (requests_at s (filter (rises (state_of s locks) (state_of t more) stays) xs))
   raised_all [] sub = refl
   raised_all (x ∷ xs) sub =
       let present : is_there x s.order ≡ true = sub x (or_left (x == x) (is_there x xs) (eq-eqb x x refl)) in
       let rest = raised_all xs (λ y h. sub y (or_right (x == y) (is_there y xs) h)) in
-      grind (arith, rest, raised_is x present, leaves.left_is x present, labels (request_at s x) (request_at t x))
+      grind (arith, rest, raised_is x present, label x present)
 
-  pub woken_marked : IsTable (state_of s locks) → IsTable (state_of t more) → grants_marked t after ≡ woken left (requests_in s)
-  woken_marked was is =
-      ap (λ l. map grant_of (requests_at t (filter (is_raised t after) l))) leaves.order
-      ∙ raised_all s.order (λ x h. h)
-      ∙ sym (flags_tell_who_rises (state_of s locks) (state_of t more) left leaves.stays was is leaves.left_is leaves.order)
+  pub risen_marked : grants_marked t after ≡ map grant_of (requests_at s (filter (rises (state_of s locks) (state_of t more) stays) s.order))
+  risen_marked = ap (λ l. map grant_of (requests_at t (filter (is_raised t after) l))) order ∙ raised_all s.order (λ x h. h)
+
+module _ (s t : Stored) (locks more : List Lock) (before after : List Bool) (was : IsTable (state_of s locks)) (is : IsTable (state_of t more))
+    (none : (x : ℕ) → mark_at before x ≡ false) (flipped : Flipped s t before after) (right : AreRight t) where
+  -- the grants that are made where the requests leave by which some jobs wait
+  pub woken_withdrawn : (jobs : ℕ) → LeavesWhere s t (is_blocking_at s (is_among jobs)) → grants_marked t after ≡ woken_by_withdrawal (requests_in s) jobs
+  woken_withdrawn jobs left =
+      risen_marked s t locks more stays before after left.order (λ x h stay. ap grant_of (same x h stay))
+      (λ x h stay. ap (λ (r : Request). r.kind) (same x h stay)) none (flipped_all s t before after right flipped)
+      ∙ ap (map grant_of)
+      (sym (flags_tell_who_rises_without (state_of s locks) (state_of t more) (is_among jobs) stays was is (λ x h. stays_is x) left.left left.order))
+    where
+      stays : ℕ → Bool
+      stays x = not (is_blocking_at s (is_among jobs) x)
+
+      stays_is : (x : ℕ) → stays x ≡ not ((is_among jobs (request_at s x).job && is_blocking (request_at s x).kind) && not (entry_at s x).granted)
+      stays_is x =
+          ap not (sym (and_assoc (is_among jobs (request_at s x).job) (is_blocking (request_at s x).kind) (not (entry_at s x).granted)))
+
+      same : (x : ℕ) → is_there x s.order ≡ true → stays x ≡ true → request_at t x ≡ request_at s x
+      same x h stay = left.left x (ap (is_there x) left.order ∙ kept_there stays x s.order h stay)
 
 module _ (s t : Stored) (locks more : List Lock) (job : ℕ) (before after : List Bool) (was : IsTable (state_of s locks)) (is : IsTable (state_of t more))
     (none : (x : ℕ) → mark_at before x ≡ false) (flipped : Flipped s t before after) (right : AreRight t) where
   -- the grants that a call makes by what it leaves
   woken_by_call : (call : LockCall) → LeavesBy (left_of job call) s t → grants_marked t after ≡ woken (left_of job call) (requests_in s)
   woken_by_call call leaves =
-      woken_marked s t locks more (left_of job call) before after (left-labels job call) (left_kind job call) leaves none (flipped_all s t before after right flipped) was is
+      risen_marked s t locks more leaves.stays before after leaves.order
+      (λ x h stay. left-labels job call (request_at s x) (request_at t x) (left_is x h stay))
+      (λ x h stay. left_kind job call (request_at s x) (request_at t x) (left_is x h stay)) none (flipped_all s t before after right flipped)
+      ∙ sym (flags_tell_who_rises (state_of s locks) (state_of t more) (left_of job call) leaves.stays was is leaves.left_is leaves.order)
+    where
+      left_is : (x : ℕ) → is_there x s.order ≡ true → leaves.stays x ≡ true → left_of job call (request_at s x) ≡ Some (request_at t x)
+      left_is x h stay = leaves.left_is x h ∙ ap (λ b. staying_if b (request_at t x)) stay
 
   -- where it is done
   pub woken_done : (size : ℕ) (call : LockCall) → LeavesBy (left_of job call) s t → (outcome_of size (requests_in s) job call).reply ≡ Done

@@ -100,6 +100,13 @@ impl<const REQS: usize> LockTable for IndexedTable<REQS> {
             .release(&mut self.leaving, &Leavers::Waiters(jobs));
     }
 
+    fn withdraw_all_waking(&mut self, jobs: u64, woken: &mut Woken) {
+        self.table.flips.clear();
+        self.table
+            .release(&mut self.leaving, &Leavers::Waiters(jobs));
+        fill_woken(&self.table.store, &self.table.flips, woken);
+    }
+
     fn is_waiting(&self, job: u8) -> bool {
         is_waiting(&self.table.store, job)
     }

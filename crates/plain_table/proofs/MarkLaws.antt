@@ -1,6 +1,6 @@
 -- Marks that are set before a change and looked at after it find the grants that it makes.
 use Rattle.std.proofs.Common.{◌≡◌, ◌∙◌, sym, ap, ℕ, suc, Bool, true, false, not, ◌&&◌, ◌||◌, ◌==◌, cond, if◌then◌else◌, List, [], ◌∷◌}
-use Rattle.std.proofs.Common.{◌++◌, length, map, filter, filter_map, Option, Some, None, is_some, refl, arith}
+use Rattle.std.proofs.Common.{◌++◌, append-nil, append_assoc, length, map, filter, filter_map, Option, Some, None, is_some, refl, arith}
 use Rattle.std.specs.List.{list_any, cons_option}
 use Rattle.std.proofs.lemmas.Bool.{and_right}
 use Rattle.std.proofs.lemmas.Bool.Decides.{nat_tests}
@@ -11,11 +11,11 @@ use Rattle.lock_queue.specs.declared.request.Request.{Request}
 use Rattle.lock_queue.specs.declared.want.Want.{Want}
 use Rattle.lock_queue.specs.Calls.{outcome_of}
 use Rattle.lock_queue.specs.Dequeues.{has_wants, without_keys}
-use Rattle.lock_queue.specs.Grants.{staying_if, left_of, grant_of, is_woken, woken, unless_refused_grants, woken_by, woken_by_release}
-use Rattle.lock_queue.specs.Jobs.{released}
+use Rattle.lock_queue.specs.Grants.{staying_if, left_of, grant_of, is_woken, woken, unless_refused_grants, woken_by, woken_by_release, is_woken_without, woken_by_withdrawal}
+use Rattle.lock_queue.specs.Jobs.{is_among, is_not_blocked_where, released, withdrawn_all, withdrawn_where}
 use Rattle.lock_queue.specs.Queue.{granted_behind, is_granted, chosen_behind, names}
 use Rattle.lock_queue.proofs.GrantLaws.{KeepsLabels, left-labels, left-gone, left-stays, released-left, call-left}
-use Rattle.plain_table.specs.GrantSteps.{awaits_grant, marked, marks_behind, raised_behind}
+use Rattle.plain_table.specs.GrantSteps.{awaits_grant, marked, marks_behind, marks_without, raised_behind}
 
 -- ---- whether a request stays
 
@@ -121,3 +121,80 @@ pub marks-released : (requests after : List Request) (job : ℕ) → after ≡ r
     → length (marks_behind (left_of job DequeueAll) [] requests) ≡ length after
 marks-released requests after job is =
     marks-length (left_of job DequeueAll) [] requests ∙ sym (ap length (is ∙ released-left requests job))
+
+-- ---- where the requests by which some jobs wait leave
+
+-- what a test chooses of one more request
+chosen-more : (test : List Request → Request → Bool) (e rs : List Request) (r : Request)
+    → chosen_behind test e (rs ++ r ∷ []) ≡ chosen_behind test e rs ++ cond (test (e ++ rs) r) (r ∷ []) []
+chosen-more test e [] r = ap (λ l. cond (test l r) (r ∷ []) []) (sym (append-nil e))
+chosen-more test e (x ∷ rs) r =
+    let rest : chosen_behind test (e ++ x ∷ []) (rs ++ r ∷ [])
+    ≡ chosen_behind test (e ++ x ∷ []) rs ++ cond (test (e ++ x ∷ rs) r) (r ∷ []) [] =
+    chosen-more test (e ++ x ∷ []) rs r
+    ∙ ap (λ l. chosen_behind test (e ++ x ∷ []) rs ++ cond (test l r) (r ∷ []) []) (append_assoc e (x ∷ []) rs) in
+    elim (test e x) as (λ b.
+    cond b (x ∷ chosen_behind test (e ++ x ∷ []) (rs ++ r ∷ [])) (chosen_behind test (e ++ x ∷ []) (rs ++ r ∷ []))
+    ≡ cond b (x ∷ chosen_behind test (e ++ x ∷ []) rs) (chosen_behind test (e ++ x ∷ []) rs) ++ cond (test (e ++ x ∷ rs) r) (r ∷ []) []) [
+      | true ↦ ap (λ l. x ∷ l) rest
+      | false ↦ rest
+    ]
+
+module _ (waiters : ℕ → Bool) where
+  -- there is a mark for each request that stays
+  marks-stay : (e rs : List Request) → length (marks_without waiters e rs) ≡ length (chosen_behind (is_not_blocked_where waiters) e rs)
+  marks-stay e [] = refl
+  marks-stay e (r ∷ rs) =
+      let rest = marks-stay (e ++ r ∷ []) rs in
+      elim (is_not_blocked_where waiters e r) as (λ b.
+      length (cond b (awaits_grant e r ∷ marks_without waiters (e ++ r ∷ []) rs) (marks_without waiters (e ++ r ∷ []) rs))
+      ≡ length (cond b (r ∷ chosen_behind (is_not_blocked_where waiters) (e ++ r ∷ []) rs) (chosen_behind (is_not_blocked_where waiters) (e ++ r ∷ []) rs))) [
+        | true ↦ omega (arith, rest)
+        | false ↦ rest
+      ]
+
+  -- what the marks raise is what is woken
+  raised-without : (e rs : List Request)
+      → raised_behind (withdrawn_where e waiters) (marks_without waiters e rs) (chosen_behind (is_not_blocked_where waiters) e rs)
+      ≡ map grant_of (chosen_behind (is_woken_without waiters) e rs)
+  raised-without e [] = refl
+  raised-without e (r ∷ rs) =
+      go (is_not_blocked_where waiters e r) (chosen-more (is_not_blocked_where waiters) [] e r) (raised-without (e ++ r ∷ []) rs)
+    where
+      stayed : List Request
+      stayed = withdrawn_where e waiters
+
+      marks : List Bool
+      marks = marks_without waiters (e ++ r ∷ []) rs
+
+      stay-later : List Request
+      stay-later = chosen_behind (is_not_blocked_where waiters) (e ++ r ∷ []) rs
+
+      woken-later : List Request
+      woken-later = chosen_behind (is_woken_without waiters) (e ++ r ∷ []) rs
+
+      go : (b : Bool) → withdrawn_where (e ++ r ∷ []) waiters ≡ stayed ++ cond b (r ∷ []) []
+          → raised_behind (withdrawn_where (e ++ r ∷ []) waiters) marks stay-later ≡ map grant_of woken-later
+          → raised_behind stayed (cond b (awaits_grant e r ∷ marks) marks) (cond b (r ∷ stay-later) stay-later)
+          ≡ map grant_of (cond (awaits_grant e r && is_granted stayed (staying_if b r)) (r ∷ woken-later) woken-later)
+      go true more h =
+          let rest : raised_behind (stayed ++ r ∷ []) marks stay-later ≡ map grant_of woken-later =
+          ap (λ l. raised_behind l marks stay-later) (sym more) ∙ h in
+          elim (awaits_grant e r && granted_behind stayed r) as (λ b.
+          cond b (grant_of r ∷ raised_behind (stayed ++ r ∷ []) marks stay-later) (raised_behind (stayed ++ r ∷ []) marks stay-later)
+          ≡ map grant_of (cond b (r ∷ woken-later) woken-later)) [
+            | true ↦ ap (λ l. grant_of r ∷ l) rest
+            | false ↦ rest
+          ]
+      go false more h =
+          ap (λ l. raised_behind l marks stay-later) (sym (more ∙ append-nil stayed)) ∙ h
+          ∙ ap (λ b. map grant_of (cond b (r ∷ woken-later) woken-later)) (sym (and_right (awaits_grant e r) false refl))
+
+pub woken-withdrawn : (requests after : List Request) (jobs : ℕ) → after ≡ withdrawn_all requests jobs
+    → raised_behind [] (marks_without (is_among jobs) [] requests) after ≡ woken_by_withdrawal requests jobs
+woken-withdrawn requests after jobs is =
+    ap (raised_behind [] (marks_without (is_among jobs) [] requests)) is ∙ raised-without (is_among jobs) [] requests
+
+pub marks-withdrawn : (requests after : List Request) (jobs : ℕ) → after ≡ withdrawn_all requests jobs
+    → length (marks_without (is_among jobs) [] requests) ≡ length after
+marks-withdrawn requests after jobs is = marks-stay (is_among jobs) [] requests ∙ sym (ap length is)

@@ -7,7 +7,7 @@ ghost use Rattle.lock_queue.specs.WellFormed.{are_well_formed, is_well_formed};
 use crate::jobs::{is_waiting, pending_of};
 use crate::rows::Rows;
 use crate::status::status_at;
-use crate::waking::{Marks, fill_woken, mark};
+use crate::waking::{Marks, fill_woken, mark, mark_without};
 use lock_queue::steps::is_granted;
 use lock_queue::{
     Asking, Key, LockCall, LockReply, LockTable, Request, RequestId, Status, Wants, Woken,
@@ -95,6 +95,12 @@ impl<const REQS: usize> LockTable for PlainTable<REQS> {
 
     fn withdraw_all(&mut self, jobs: u64) {
         self.rows.withdraw_all(jobs);
+    }
+
+    fn withdraw_all_waking(&mut self, jobs: u64, woken: &mut Woken) {
+        mark_without(&mut self.marks, self.rows.as_slice(), jobs);
+        self.rows.withdraw_all(jobs);
+        fill_woken(woken, self.marks.as_slice(), self.rows.as_slice());
     }
 
     fn is_waiting(&self, job: u8) -> bool {

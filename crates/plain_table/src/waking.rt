@@ -3,11 +3,12 @@ ghost use Rattle.std.specs.Prelude.{◌≡◌, ◌≤◌, ◌==◌, ◌&&◌, []
 ghost use Rattle.std.specs.List.{list_any};
 ghost use Rattle.word36.specs.declared.sizes.TheConstants.{MOST_REQUESTS};
 ghost use Rattle.lock_queue.specs.Grants.{left_of};
+ghost use Rattle.lock_queue.specs.Jobs.{is_among};
 ghost use Rattle.lock_queue.specs.Queue.{names};
-ghost use Rattle.plain_table.specs.GrantSteps.{awaits_grant, marks_behind, raised_behind};
+ghost use Rattle.plain_table.specs.GrantSteps.{awaits_grant, marks_behind, marks_without, raised_behind};
 
 use arrayvec::ArrayVec;
-use lock_queue::steps::{grant_of, is_granted, is_notified_of, names_key};
+use lock_queue::steps::{grant_of, is_blocked_among, is_granted, is_notified_of, names_key};
 use lock_queue::{LockCall, Request, Want, Woken};
 
 /// For each request that stays, whether its job awaits its grant.
@@ -56,6 +57,20 @@ pub fn mark<const REQS: usize>(
     for (i, r) in requests.iter().enumerate() {
         if stays(r, job, call) {
             marks.push(awaits_grant(&requests[..i], r));
+        }
+    }
+}
+
+/// Marks, of the requests that stay where those by which some jobs wait leave, those whose jobs await their grants.
+pub fn mark_without<const REQS: usize>(marks: &mut Marks<REQS>, requests: &[Request], jobs: u64)
+    requires { length requests.now ≤ REQS }
+    ensures { marks.new.items ≡ marks_without (is_among jobs) [] requests.now }
+{
+    marks.clear();
+    for (i, r) in requests.iter().enumerate() {
+        let earlier = &requests[..i];
+        if !is_blocked_among(earlier, r, jobs) {
+            marks.push(awaits_grant(earlier, r));
         }
     }
 }
