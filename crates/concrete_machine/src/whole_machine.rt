@@ -6,14 +6,19 @@ ghost use Rattle.machine.specs.Deposits.{deposited, started_at};
 ghost use Rattle.machine.specs.Machine.{happens, after, answers, at_boot};
 ghost use Rattle.machine.specs.Rounds.{rounds, runs_in};
 ghost use Rattle.machine.specs.Views.{job_view, word_in};
+ghost use Rattle.machine.specs.declared.event.Event.TheVariants.{Tick};
 ghost use Rattle.progress_laws.specs.Promises.{EventKeeps};
+ghost use Rattle.run_events.specs.Facts.{facts_of_tick};
+ghost use Rattle.run_events.specs.Runs.{LeadsTo};
 
 use core_store::BlockCore;
 use lock_queue::LockTable;
 use lock_table::ProgramTable;
 use monitor::{Answer, Config, Event, JobView, Rounds, System};
+use run_events::{Fact, RoundsMade, rounds_facts, tick_facts};
 use std::alloc::{AllocError, Global};
 use std::marker::Model;
+use uuo_calls::BlockRoom;
 use word36::{Address, Word};
 
 /// A `System` with the lock table and the core store of the programs. Its methods are those of `System`.
@@ -69,6 +74,29 @@ impl Machine {
             → Between self.old (after (rounds k true) self.old) result.job (is_among addresses.now) }
     {
         self.system.rounds_to(most, addresses)
+    }
+
+    /// Makes 1 to `most` rounds of the job that is next, but for the last tick, up to the first that may have a fact;
+    /// the facts of the last step are with them.
+    pub fn rounds_facts(
+        &mut self,
+        alloc: Global,
+        room: &mut BlockRoom,
+        most: u32,
+    ) -> Result<RoundsMade, AllocError>
+        requires { 1 ≤ most }
+        ensures rounds { IfOk result (λ r. LeadsTo self.old self.new r) }
+        ensures most { IfOk result (λ r. r.made ≤ most) }
+    {
+        rounds_facts(alloc, &mut self.system, room, most)
+    }
+
+    /// Makes a tick, and gives its facts.
+    pub fn tick_facts(&mut self, alloc: Global) -> Result<Vec<Fact>, AllocError>
+        ensures state { self.new ≡ (happens self.old Tick).state }
+        ensures facts { IfOk result (λ facts. facts.items ≡ facts_of_tick self.old) }
+    {
+        tick_facts(alloc, &mut self.system)
     }
 
     /// What there is to see of a job, if it is there.

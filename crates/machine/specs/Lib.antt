@@ -14,3 +14,4 @@ pub mod Alone
 pub mod Limits
 pub mod Stretches
 pub mod Between
+pub mod Told

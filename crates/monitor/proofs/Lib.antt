@@ -3,3 +3,5 @@ pub mod SoundDeposits
 pub mod DepositedWords
 pub mod AwakeJobs
 pub mod Running
+mod Copying
+mod Telling

@@ -1,6 +1,7 @@
 //! The machine as a whole: it does what each event asks, and is safe at all times.
 #![tactic(auto)]
 
+mod copies;
 mod cores;
 mod deposits;
 mod login;
@@ -10,6 +11,7 @@ mod runner;
 mod system;
 mod turn;
 
-pub use machine::{Answer, Config, Event, JobView, MOST_QUANTUM, RefusedEvent};
+pub use copies::{copied, ungranted_in};
+pub use machine::{Answer, Config, Event, JobView, MOST_QUANTUM, RefusedEvent, Told};
 pub use rounds::Rounds;
 pub use system::System;

@@ -7,15 +7,23 @@ ghost use Rattle.job_sched.specs.Ready.{next_job};
 ghost use Rattle.job_sched.specs.Tables.{job_at};
 ghost use Rattle.job_sched.specs.declared.job.Job.{Job as JobRecord};
 ghost use Rattle.machine.specs.Between.{Between, NoneOver, is_among, next_in};
+ghost use Rattle.lock_queue.specs.Jobs.{is_among as is_in_set};
+ghost use Rattle.job_sched.specs.Changes.{ticked_table};
+ghost use Rattle.job_sched.specs.Limits.{expires};
 ghost use Rattle.machine.specs.Deposits.{deposited, started_at};
 ghost use Rattle.machine.specs.Images.{blocks_for};
-ghost use Rattle.machine.specs.Machine.{S, after, answers, refusal_of, stepped, ticked, killed, happens, at_boot, started};
+ghost use Rattle.machine.specs.Machine.{S, after, answers, called, refusal_of, stepped, ticked, killed, happens, at_boot, started};
 ghost use Rattle.machine.specs.Machine.{continued, restarted, typed, taken, admitted, first_quota, logged_in};
 ghost use Rattle.machine.specs.Rounds.{rounds, runs_in};
 ghost use Rattle.machine.specs.Safe.{Safe};
 ghost use Rattle.machine.specs.Stretches.{Stretched, runs_on, table_after, ticked_if, time_after};
+ghost use Rattle.machine.specs.Told.{before_in, before_on, block_before, grants_by, read_in, read_on, requests_before, told_in, told_of_call, told_on};
 ghost use Rattle.machine.specs.Views.{job_view, held_wait, word_in};
+ghost use Rattle.machine.specs.Waits.{ungranted};
+ghost use Rattle.machine.specs.declared.event.Event.TheVariants.{Step};
+ghost use Rattle.monitor_laws.specs.Quiet.{IsQuiet};
 
+use crate::copies::{ungranted_if, ungranted_in};
 use crate::cores::free_all;
 use crate::deposits::{is_done, put_word, set_pc};
 use crate::login::{image_top, load_job};
@@ -24,12 +32,14 @@ use crate::runner::{Loop, Runner, UpTo};
 use crate::turn::run_turn;
 use core_store::CoreStore;
 use job_sched::{Job, JobError, JobTable, TimeOfDay, Wait};
-use lock_queue::LockTable;
-use machine::{Answer, Config, Event, INTERRUPT_CHARACTER, JobView, LOGIN_QUOTA, RefusedEvent};
+use lock_queue::{LockTable, Request};
+use machine::{
+    Answer, Config, Event, INTERRUPT_CHARACTER, JobView, LOGIN_QUOTA, RefusedEvent, Told,
+};
 use std::alloc::{AllocError, Global};
 use std::marker::Model;
 use tty_lines::{Char7, LineNumber, Lines};
-use uuo_calls::{CallRoom, World};
+use uuo_calls::{BlockRoom, CallRoom, MonitorCall, Service, World, service_of};
 use word36::{Address, BLOCK_WORDS, DATA_WORDS, Image, JOBS, Word};
 
 /// The parts of the machine, whatever state they are in.
@@ -72,6 +82,19 @@ fn refusal_of(error: JobError) -> RefusedEvent
     match error {
         JobError::NoSuchJob => RefusedEvent::NoSuchJob,
         JobError::NotStopped => RefusedEvent::NotStopped,
+    }
+}
+
+/// Whether requests that waited may be granted behind a call.
+fn grants_by(call: &Option<MonitorCall>) -> bool
+    ensures { result ≡ grants_by call.now }
+{
+    match call {
+        Some(MonitorCall { kind, ac, e }) => matches!(
+            service_of(*kind, *ac, *e),
+            Service::Enq | Service::Deq | Service::Reset | Service::Exit | Service::Logout
+        ),
+        None => false,
     }
 }
 
@@ -173,7 +196,7 @@ impl<L: LockTable, C: CoreStore> Parts<L, C> {
             return;
         };
         job.wait = Wait::None;
-        let (_, call) = run_turn::<L, C, Loop<true>>(
+        let (_, call, _) = run_turn::<L, C, Loop<true>>(
             n,
             job,
             &mut world.locks,
@@ -218,7 +241,7 @@ impl<L: LockTable, C: CoreStore> Parts<L, C> {
             return 1;
         };
         job.wait = Wait::None;
-        let (rounds, call) = run_turn(n, job, &mut world.locks, &mut world.cores, most, runner);
+        let (rounds, call, _) = run_turn(n, job, &mut world.locks, &mut world.cores, most, runner);
         pass_ticks(
             ticking,
             rounds,
@@ -230,6 +253,182 @@ impl<L: LockTable, C: CoreStore> Parts<L, C> {
             world.perform(n, call, self.time);
         }
         rounds
+    }
+
+    /// Performs the call that a job made in its turn, and tells what that asks and what it is answered. `next` is
+    /// the job's PC behind the instruction.
+    #[inline(never)]
+    fn tell_made(
+        world: &mut World<L, C>,
+        n: u8,
+        next: Address,
+        made: MonitorCall,
+        time: TimeOfDay,
+        room: &mut BlockRoom,
+    ) -> Told
+        requires number { IsJob n }
+        requires there { IsSome (job_at world.old.table.jobs n) }
+        requires core { core_of world.old.cores n ≢ [] }
+        ensures world { world.new ≡ called world.old time n (Some made) }
+        ensures told { result ≡ told_of_call world.old n next (Some made) }
+        ensures read { room.new ≡ block_before world.old n (Some made) }
+    {
+        // The prover takes the call apart, so that it may be handed over three times.
+        let MonitorCall { kind, ac, e } = made;
+        let asked = world.asked(n, MonitorCall { kind, ac, e }, room);
+        let end = world.perform(n, MonitorCall { kind, ac, e }, time);
+        Told {
+            job: n,
+            next,
+            call: Some(MonitorCall { kind, ac, e }),
+            asked,
+            reply: end.reply,
+        }
+    }
+
+    /// Performs the call of a turn, if there is one, and tells what the turn makes known; and copies the requests
+    /// that are not granted before the call, where it may grant some.
+    #[inline(always)]
+    fn tell_call(
+        alloc: Global,
+        world: &mut World<L, C>,
+        n: u8,
+        next: Address,
+        call: Option<MonitorCall>,
+        time: TimeOfDay,
+        room: &mut BlockRoom,
+    ) -> (Told, Result<Vec<Request>, AllocError>)
+        requires number { IsJob n }
+        requires there { IsSome (job_at world.old.table.jobs n) }
+        requires core { core_of world.old.cores n ≢ [] }
+        ensures world { world.new ≡ called world.old time n call }
+        ensures told { result.0 ≡ told_of_call world.old n next call }
+        ensures read { room.new ≡ block_before world.old n call }
+        ensures before { IfOk result.1 (λ v. v.items ≡ requests_before world.old call) }
+    {
+        let before = ungranted_if(alloc, grants_by(&call), world);
+        let told = match call {
+            Some(made) => Self::tell_made(world, n, next, made, time, room),
+            None => {
+                room.clear();
+                Told {
+                    job: n,
+                    next,
+                    call: None,
+                    asked: None,
+                    reply: None,
+                }
+            }
+        };
+        (told, before)
+    }
+
+    /// Runs a job for 1 to `most` rounds as `run_job` does, and tells what the last of them makes known, and the PC
+    /// before it.
+    #[inline(always)]
+    fn tell_job(
+        &mut self,
+        alloc: Global,
+        n: u8,
+        most: u32,
+        ticking: bool,
+        room: &mut BlockRoom,
+    ) -> (u32, Option<Told>, Result<Vec<Request>, AllocError>, Address)
+        requires number { IsJob n }
+        requires some { 1 ≤ most }
+        requires there { IsSome (job_at self.old.world.table.jobs n) }
+        requires core { core_of self.old.world.cores n ≢ [] }
+        ensures runs { record { world = self.new.world; time = self.new.time; rounds = result.0 }
+            ≡ runs_on self.old.world self.old.time self.old.quantum n result.0 ticking (job_at self.old.world.table.jobs n) }
+        ensures others { self.new ≡ record self.old { world = self.new.world; time = self.new.time } }
+        ensures least { 1 ≤ result.0 }
+        ensures most { result.0 ≤ most }
+        ensures told { result.1 ≡ told_on self.old.world self.old.quantum n result.0 ticking (job_at self.old.world.table.jobs n) }
+        ensures before { IfOk result.2 (λ v. v.items
+            ≡ before_on self.old.world self.old.quantum n result.0 ticking (job_at self.old.world.table.jobs n)) }
+        ensures read { room.new ≡ read_on self.old.world self.old.quantum n result.0 ticking (job_at self.old.world.table.jobs n) }
+    {
+        let world = &mut self.world;
+        let Some(job) = &mut world.table.jobs[n as usize] else {
+            room.clear();
+            return (1, None, Ok(Vec::new(alloc)), Address::new(0));
+        };
+        job.wait = Wait::None;
+        let runner = UpTo { addresses: &[] };
+        let (rounds, call, at) = run_turn::<L, C, UpTo<'_>>(
+            n,
+            job,
+            &mut world.locks,
+            &mut world.cores,
+            most,
+            &runner,
+        );
+        let next = job.regs.pc;
+        pass_ticks(
+            ticking,
+            rounds,
+            self.quantum,
+            &mut world.table,
+            &mut self.time,
+        );
+        let (told, before) = Self::tell_call(alloc, world, n, next, call, self.time, room);
+        (rounds, Some(told), before, at)
+    }
+
+    /// Lets the job that is next take its turn, as `step` does, and tells what that makes known; nothing where
+    /// no job is ready.
+    #[inline(never)]
+    pub fn step_told(
+        &mut self,
+        alloc: Global,
+        room: &mut BlockRoom,
+    ) -> (Option<Told>, Result<Vec<Request>, AllocError>)
+        requires { Safe self.old }
+        ensures state { self.new ≡ (happens self.old Step).state }
+        ensures told { result.0 ≡ told_in self.old }
+        ensures before { IfOk result.1 (λ v. v.items ≡ before_in self.old) }
+        ensures read { room.new ≡ read_in self.old }
+    {
+        let world = &mut self.world;
+        let Some(n) = world.table.next(&world.lines, &world.locks) else {
+            room.clear();
+            return (None, Ok(Vec::new(alloc)));
+        };
+        world.table.choose(n, self.quantum);
+        let ran = self.tell_job(alloc, n, 1, false, room);
+        let (_, told, before, _) = ran;
+        (told, before)
+    }
+
+    /// Runs the job that is next for 1 to `most` rounds, as `run_next` does, and tells what the last of them
+    /// makes known, and the PC before it. The tick of the last round is left to the caller.
+    #[inline(never)]
+    pub fn rounds_told(
+        &mut self,
+        alloc: Global,
+        most: u32,
+        room: &mut BlockRoom,
+    ) -> (u32, Option<Told>, Result<Vec<Request>, AllocError>, Address)
+        requires safe { Safe self.old }
+        requires some { 1 ≤ most }
+        ensures least { 1 ≤ result.0 }
+        ensures most { result.0 ≤ most }
+        ensures quiet { (k : ℕ) → k + 1 < result.0 → IsQuiet (after (rounds k true) self.old) }
+        ensures state { self.new ≡ (happens (after (rounds (result.0 - 1) true) self.old) Step).state }
+        ensures told { result.1 ≡ told_in (after (rounds (result.0 - 1) true) self.old) }
+        ensures before { IfOk result.2 (λ v. v.items ≡ before_in (after (rounds (result.0 - 1) true) self.old)) }
+        ensures read { room.new ≡ read_in (after (rounds (result.0 - 1) true) self.old) }
+    {
+        let world = &mut self.world;
+        let Some(n) = world.table.next(&world.lines, &world.locks) else {
+            room.clear();
+            return (1, None, Ok(Vec::new(alloc)), Address::new(0));
+        };
+        let alone = world.table.is_alone(n);
+        world.table.choose(n, self.quantum);
+        let span = world.table.span(n, most, true, alone);
+        let ran = self.tell_job(alloc, n, span, true, room);
+        ran
     }
 
     /// Makes `most` rounds, each a step with a tick after it where `TICKING`. Returns in how many a job ran.
@@ -290,6 +489,24 @@ impl<L: LockTable, C: CoreStore> Parts<L, C> {
         if ended != 0 {
             self.world.locks.withdraw_all(ended);
         }
+    }
+
+    /// Makes a tick, as `tick` does, and tells the set of the jobs whose limits end; and copies the requests that
+    /// are not granted before these leave, where there are some.
+    #[inline(never)]
+    pub fn tick_told(&mut self, alloc: Global) -> (u64, Result<Vec<Request>, AllocError>)
+        ensures state { self.new ≡ (ticked self.old).state }
+        ensures ended { (n : ℕ) → is_in_set result.0 n ≡ expires self.old.world.requests (ticked_table self.old.world.table).jobs n }
+        ensures before { result.0 ≢ 0 → IfOk result.1 (λ v. v.items ≡ ungranted self.old.world.requests) }
+    {
+        self.time.advance();
+        let ended = self.world.table.pass_tick(&self.world.locks);
+        if ended == 0 {
+            return (0, Ok(Vec::new(alloc)));
+        }
+        let before = ungranted_in(alloc, &self.world.locks);
+        self.world.locks.withdraw_all(ended);
+        (ended, before)
     }
 
     /// Kills a job: its requests leave, and its core and its line are free.

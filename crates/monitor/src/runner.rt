@@ -12,8 +12,9 @@ pub(crate) trait Runner {
     ghost ends: { Self → ℕ → Bool };
 
     /// Executes 1 to `most` instructions: until one calls the monitor or stops, or `ends` holds of the
-    /// address at which it leaves the PC. Returns how many were executed, and how the last one ended.
-    fn run(&self, regs: &mut Regs, words: &mut [Word], most: u64) -> (u64, Outcome)
+    /// address at which it leaves the PC. Returns how many were executed, how the last one ended, and, from a loop
+    /// that keeps it, the address of the last one; no clause speaks of that.
+    fn run(&self, regs: &mut Regs, words: &mut [Word], most: u64) -> (u64, Outcome, Address)
         ensures ran { record { steps = result.0; after = record { regs = regs.new; core = words.new; outcome = result.1 } }
             ≡ ran result.0 regs.old words.old }
         ensures most { result.0 ≤ most }
@@ -30,12 +31,14 @@ impl<const IN_PLACE: bool> Runner for Loop<IN_PLACE> {
     ghost ends = { λ r a. false };
 
     #[inline(always)]
-    fn run(&self, regs: &mut Regs, words: &mut [Word], most: u64) -> (u64, Outcome) {
-        run_steps_from::<IN_PLACE>(regs, words, most)
+    fn run(&self, regs: &mut Regs, words: &mut [Word], most: u64) -> (u64, Outcome, Address) {
+        let (steps, outcome) = run_steps_from::<IN_PLACE>(regs, words, most);
+        (steps, outcome, regs.pc)
     }
 }
 
-/// A loop that ends after the first instruction that leaves the PC at one of some addresses.
+/// A loop that ends after the first instruction that leaves the PC at one of some addresses, and keeps the address of
+/// each instruction.
 #[derive(Clone, Copy, Debug)]
 pub(crate) struct UpTo<'a> {
     /// The addresses.
@@ -46,19 +49,21 @@ impl<'a> Runner for UpTo<'a> {
     ghost ends = { λ r a. is_among r.addresses.now a };
 
     #[inline(never)]
-    fn run(&self, regs: &mut Regs, words: &mut [Word], most: u64) -> (u64, Outcome) {
+    fn run(&self, regs: &mut Regs, words: &mut [Word], most: u64) -> (u64, Outcome, Address) {
         let mut memory = CoreWords { words };
+        let mut at = regs.pc;
         for done in 0..most {
+            at = regs.pc;
             match step_in_loop(regs, &mut memory) {
                 Outcome::Done => {
                     if is_among(self.addresses, regs.pc) {
-                        return (done + 1, Outcome::Done);
+                        return (done + 1, Outcome::Done, at);
                     }
                 }
-                ended => return (done + 1, ended),
+                ended => return (done + 1, ended, at),
             }
         }
-        (most, Outcome::Done)
+        (most, Outcome::Done, at)
     }
 }
 

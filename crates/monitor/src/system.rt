@@ -1,21 +1,29 @@
 //! The machine, which is safe at all times.
-ghost use Rattle.std.specs.Prelude.{ℕ, ◌≡◌, ◌≢◌, ◌≤◌, ◌<◌, ◌⊎◌, true, false, is_some, Some, length, IfOk, slice_get};
+ghost use Rattle.std.specs.Prelude.{ℕ, ◌≡◌, ◌≢◌, ◌≤◌, ◌<◌, ◌⊎◌, ◌+◌, ◌-◌, true, false, is_some, Some, length, IfOk, slice_get};
 ghost use Rattle.word36.specs.declared.sizes.TheConstants.{MOST_REQUESTS};
+ghost use Rattle.job_sched.specs.Changes.{ticked_table};
+ghost use Rattle.job_sched.specs.Limits.{expires};
+ghost use Rattle.lock_queue.specs.Jobs.{is_among as is_in_set};
 ghost use Rattle.machine.specs.Between.{Between, is_among, next_in};
 ghost use Rattle.machine.specs.Deposits.{deposited, started_at};
 ghost use Rattle.machine.specs.Machine.{happens, after, answers, at_boot};
 ghost use Rattle.machine.specs.Rounds.{rounds, runs_in};
+ghost use Rattle.machine.specs.Told.{before_in, read_in, told_in};
 ghost use Rattle.machine.specs.Views.{job_view, word_in};
+ghost use Rattle.machine.specs.Waits.{ungranted};
+ghost use Rattle.machine.specs.declared.event.Event.TheVariants.{Step, Tick};
+ghost use Rattle.monitor_laws.specs.Quiet.{IsQuiet};
 ghost use Rattle.progress_laws.specs.Kept.{IsSound};
 ghost use Rattle.progress_laws.specs.Promises.{EventKeeps, RunKeeps};
 
 use crate::parts::Parts;
 use crate::rounds::Rounds;
 use core_store::CoreStore;
-use lock_queue::LockTable;
-use machine::{Answer, Config, Event, JobView};
+use lock_queue::{LockTable, Request};
+use machine::{Answer, Config, Event, JobView, Told};
 use std::alloc::{AllocError, Global};
 use std::marker::Model;
+use uuo_calls::BlockRoom;
 use word36::{Address, Word};
 
 /// A DECsystem-10 with up to 63 jobs and 64 terminal lines (this project's profile).
@@ -122,6 +130,55 @@ impl<L: LockTable, C: CoreStore> System<L, C> {
             → Between self.old (after (rounds k true) self.old) result.job (is_among addresses.now) }
     {
         self.parts.rounds_to(most, addresses)
+    }
+
+    /// Makes a step, and tells what it makes known, from the parts that decide it: whose turn it was, the call
+    /// that the job made, what it asked of the lock queue, and what it was answered; nothing where no job is
+    /// ready. The block that a lock call read is left in `room`. It gives copies of the requests that were not granted
+    /// before the call, where that may grant some.
+    pub fn step_told(
+        &mut self,
+        alloc: Global,
+        room: &mut BlockRoom,
+    ) -> (Option<Told>, Result<Vec<Request>, AllocError>)
+        ensures state { self.new ≡ (happens self.old Step).state }
+        ensures told { result.0 ≡ told_in self.old }
+        ensures before { IfOk result.1 (λ v. v.items ≡ before_in self.old) }
+        ensures read { room.new ≡ read_in self.old }
+    {
+        self.parts.step_told(alloc, room)
+    }
+
+    /// Makes 1 to `most` rounds at once, each a step and a tick, as `rounds_to` does, but leaves the last tick to the
+    /// caller. Tells what the last step makes known, and the job's PC before that, of which no clause speaks; the rounds
+    /// before it are quiet. A caller that wants the facts of a run makes this and `tick_told` in turn.
+    #[inline(always)]
+    pub fn rounds_told(
+        &mut self,
+        alloc: Global,
+        most: u32,
+        room: &mut BlockRoom,
+    ) -> (u32, Option<Told>, Result<Vec<Request>, AllocError>, Address)
+        requires { 1 ≤ most }
+        ensures least { 1 ≤ result.0 }
+        ensures most { result.0 ≤ most }
+        ensures quiet { (k : ℕ) → k + 1 < result.0 → IsQuiet (after (rounds k true) self.old) }
+        ensures state { self.new ≡ (happens (after (rounds (result.0 - 1) true) self.old) Step).state }
+        ensures told { result.1 ≡ told_in (after (rounds (result.0 - 1) true) self.old) }
+        ensures before { IfOk result.2 (λ v. v.items ≡ before_in (after (rounds (result.0 - 1) true) self.old)) }
+        ensures read { room.new ≡ read_in (after (rounds (result.0 - 1) true) self.old) }
+    {
+        self.parts.rounds_told(alloc, most, room)
+    }
+
+    /// Makes a tick, and tells the set of the jobs whose limits end, which has bit 2^j for each job j.
+    /// It gives copies of the requests that were not granted before these left, where there are some.
+    pub fn tick_told(&mut self, alloc: Global) -> (u64, Result<Vec<Request>, AllocError>)
+        ensures state { self.new ≡ (happens self.old Tick).state }
+        ensures ended { (n : ℕ) → is_in_set result.0 n ≡ expires self.old.world.requests (ticked_table self.old.world.table).jobs n }
+        ensures before { result.0 ≢ 0 → IfOk result.1 (λ v. v.items ≡ ungranted self.old.world.requests) }
+    {
+        self.parts.tick_told(alloc)
     }
 
     /// What there is to see of a job, if it is there. It is inlined, so that a caller pays only for the

@@ -22,7 +22,8 @@ use uuo_calls::MonitorCall;
 use word36::{Address, Word};
 
 /// Executes 1 to `most` instructions of a job in its core, until the runner ends the turn, or one of them
-/// stops the job or calls the monitor. Returns how many were executed, and the call.
+/// stops the job or calls the monitor. Returns how many were executed, the call, and the address of the last one from
+/// a runner that keeps it.
 #[inline(always)]
 fn execute<C: CoreStore, R: Runner>(
     number: u8,
@@ -30,7 +31,7 @@ fn execute<C: CoreStore, R: Runner>(
     cores: &mut C,
     most: u32,
     runner: &R,
-) -> (u32, Option<MonitorCall>)
+) -> (u32, Option<MonitorCall>, Address)
     requires number { IsJob number }
     requires some { 1 ≤ most }
     ensures turn { record {
@@ -42,18 +43,18 @@ fn execute<C: CoreStore, R: Runner>(
     ensures none_over { NoneOver (R.ends runner.now) job.old.regs (core_of (C.meaning cores.old) number) result.0 }
 {
     let words = cores.window(number);
-    let (steps, outcome) = runner.run(&mut job.regs, words, u64::from(most));
+    let (steps, outcome, at) = runner.run(&mut job.regs, words, u64::from(most));
     let rounds = steps as u32;
     match outcome {
-        Outcome::Done => (rounds, None),
+        Outcome::Done => (rounds, None, at),
         Outcome::Stop(reason) => {
             job.stop = Some(Stop::Fault(reason));
-            (rounds, None)
+            (rounds, None, at)
         }
         Outcome::Call(kind, ac, e) => {
             let ac = Accumulator::new(ac);
             let e = Address::new(e);
-            (rounds, Some(MonitorCall { kind, ac, e }))
+            (rounds, Some(MonitorCall { kind, ac, e }), at)
         }
     }
 }
@@ -106,8 +107,8 @@ fn deliver<L: LockTable, C: CoreStore>(
     }
 }
 
-/// Takes the turn of a job that waits for nothing, for 1 to `most` rounds. Returns for how many, and the
-/// call that the job makes.
+/// Takes the turn of a job that waits for nothing, for 1 to `most` rounds. Returns for how many, the call that the
+/// job makes, and the PC before the last of them, from a runner that keeps it.
 #[inline(always)]
 fn take_turn<L: LockTable, C: CoreStore, R: Runner>(
     number: u8,
@@ -116,7 +117,7 @@ fn take_turn<L: LockTable, C: CoreStore, R: Runner>(
     cores: &mut C,
     most: u32,
     runner: &R,
-) -> (u32, Option<MonitorCall>)
+) -> (u32, Option<MonitorCall>, Address)
     requires number { IsJob number }
     requires some { 1 ≤ most }
     ensures cores { C.meaning cores.new ≡ (stretch_of number result.0 job.old (C.meaning cores.old) (L.requests locks.old)).turn.cores }
@@ -132,8 +133,9 @@ fn take_turn<L: LockTable, C: CoreStore, R: Runner>(
     if job.interrupts.on && !job.interrupts.in_progress {
         if let Some(vector) = job.interrupts.vector {
             if let Some(id) = locks.pending(number) {
+                let at = job.regs.pc;
                 deliver(number, job, vector, id, locks, cores);
-                return (1, None);
+                return (1, None, at);
             }
         }
     }
@@ -149,7 +151,7 @@ pub(crate) fn run_turn<L: LockTable, C: CoreStore, R: Runner>(
     cores: &mut C,
     most: u32,
     runner: &R,
-) -> (u32, Option<MonitorCall>)
+) -> (u32, Option<MonitorCall>, Address)
     requires number { IsJob number }
     requires core { core_of (C.meaning cores.old) number ≢ [] }
     requires some { 1 ≤ most }

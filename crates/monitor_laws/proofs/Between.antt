@@ -31,7 +31,7 @@ step-before true k m some all one e rest less whole = let x = rest refl (omega (
 step-before false k m some all one e rest less whole = absurd (omega (arith, e, less, whole))
 
 -- where so many instructions were executed, fewer end with one that is done
-ran-before : (k m : ℕ) (g : Regs) (core : List ℕ) → k < m → (ran m g core).steps ≡ m →
+pub ran-before : (k m : ℕ) (g : Regs) (core : List ℕ) → k < m → (ran m g core).steps ≡ m →
     ((ran k g core).steps ≡ k) × (is_done (ran k g core).after.outcome ≡ true)
 unfolding ran
 ran-before zero m g core less whole = (refl, refl)

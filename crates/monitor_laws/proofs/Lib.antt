@@ -19,3 +19,5 @@ pub mod Rounding
 pub mod Stretching
 pub mod Limiting
 pub mod Between
+pub mod Lasting
+pub mod Quieting

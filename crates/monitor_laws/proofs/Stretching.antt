@@ -332,7 +332,7 @@ chosen-again t n quantum is =
     by_left true = refl
     by_left false = ap (λ (m : ℕ). record t { current = m; left = quantum }) (sym is)
 
-chosen-between : (t : Table) (n quantum : ℕ) (ticking : Bool) (i : ℕ) → t.current ≡ n → 0 < t.left
+pub chosen-between : (t : Table) (n quantum : ℕ) (ticking : Bool) (i : ℕ) → t.current ≡ n → 0 < t.left
     → chosen (between t quantum ticking i) n quantum ≡ table_after t quantum ticking (suc i)
 chosen-between t n quantum false i is some = chosen-current t n quantum is some
 chosen-between t n quantum true i is some = chosen-again (between t quantum true i) n quantum is
@@ -360,7 +360,7 @@ ready-going jobs w n k place ready stop m = elim (cases_eq m n) [
 ]
 
 -- what is put in the job's place twice is there once
-table-twice : (t : Table) (n : ℕ) (o p : Option Job) (quantum : ℕ) (ticking : Bool) (i : ℕ)
+pub table-twice : (t : Table) (n : ℕ) (o p : Option Job) (quantum : ℕ) (ticking : Bool) (i : ℕ)
     → with_job (table_after (with_job t n o) quantum ticking i) n p ≡ table_after (with_job t n p) quantum ticking i
 table-twice t n o p quantum false i = ap (λ (jobs : List (Option Job)). record t { jobs = jobs }) (set-set t.jobs n o p)
 table-twice t n o p quantum true i = ap (λ (jobs : List (Option Job)). record t { jobs = jobs; left = left_after quantum t.left i }) (set-set t.jobs n o p)
@@ -369,7 +369,7 @@ table-twice t n o p quantum true i = ap (λ (jobs : List (Option Job)). record t
 abbrev start_of : S → ℕ → Bool → ℕ → Option Job → List ℕ → World
 start_of s n ticking i o core = record s.world { table = table_after (with_job s.world.table n o) s.quantum ticking i; cores = with_core s.world.cores n core }
 
-abbrev turn_in : S → Job → Regs → List (List ℕ) → Outcome → Turn
+abbrev pub turn_in : S → Job → Regs → List (List ℕ) → Outcome → Turn
 turn_in s j g cores x = concluded (with_regs j g) (record { cores = cores; free = s.world.cores.free }) s.world.requests x
 
 ended-turn : (s : S) (n : ℕ) (ticking : Bool) (i : ℕ) (o : Option Job) (core : List ℕ) (t : Turn)

@@ -1,4 +1,3 @@
-pub mod Answers
 pub mod Grants
 pub mod Typing
 pub mod Ends

@@ -2,10 +2,10 @@
 ghost use Rattle.std.specs.Prelude.{◌≡◌, ◌<◌, [], length, take, slice_get, IfSome, IsNone};
 ghost use Rattle.std.specs.List.{list_any};
 ghost use Rattle.lock_queue.specs.Queue.{granted, names, some_behind};
-ghost use Rattle.run_facts.specs.Grants.{has_lock_of, is_left_of, is_new_grant, was_waiting_as, was_waiting, waiting_id};
+ghost use Rattle.run_facts.specs.Grants.{has_lock_of, is_left_of, is_new_grant, was_waiting_as, was_waiting};
 
-use lock_queue::steps::{is_blocked, is_granted, names_key};
-use lock_queue::{Request, RequestId};
+use lock_queue::Request;
+use lock_queue::steps::{is_granted, names_key};
 
 /// Whether a request has one of another's locks.
 fn has_lock_of(r: &Request, old: &Request) -> bool
@@ -38,18 +38,6 @@ fn was_waiting(before: &[Request], r: &Request) -> bool
         }
     }
     false
-}
-
-/// The id of the request by which a job waits, if it waits by one. Where the job's time limit ends, that request ends.
-pub fn waiting_id(requests: &[Request], job: u8) -> Option<RequestId>
-    ensures { result ≡ waiting_id requests.now job }
-{
-    for (i, r) in requests.iter().enumerate() {
-        if is_blocked(&requests[..i], r, job) {
-            return Some(r.id);
-        }
-    }
-    None
 }
 
 /// Whether the request at a position of `requests` is granted, and was in `before` and not granted there.

@@ -1,7 +1,7 @@
--- Lock calls before they are made, and what they are answered (ENQ/DEQ of the TOPS-10 Monitor Calls Manual, in this
+-- Lock calls before they are made, and what refusals mean (ENQ/DEQ of the TOPS-10 Monitor Calls Manual, in this
 -- project's profile).
-use Rattle.std.specs.Prelude.{ℕ, zero, suc, ◌+◌, ◌%◌, ◌^◌, ◌==◌, ◌&&◌, ◌||◌, nat_le, Bool, true, false, if◌then◌else◌}
-use Rattle.std.specs.Prelude.{List, [], ◌∷◌, Option, Some, None, codes, is_some, slice_index}
+use Rattle.std.specs.Prelude.{ℕ, zero, suc, ◌+◌, ◌%◌, ◌^◌, ◌==◌, ◌&&◌, ◌||◌, nat_le, Bool, false, if◌then◌else◌}
+use Rattle.std.specs.Prelude.{List, [], ◌∷◌, Option, Some, None, codes, slice_index}
 use Rattle.std.specs.List.{list_any}
 use Rattle.std.specs.Result.{result_ok}
 use Rattle.word36.specs.Words.{left_half, right_half}
@@ -17,19 +17,15 @@ use Rattle.lock_queue.specs.declared.terms.BlockUse.TheVariants.{Blocking, Full,
 use Rattle.lock_queue.specs.declared.want.Want.{Want}
 use Rattle.call_block.specs.Blocks.{block_at}
 use Rattle.call_block.specs.declared.block.Block.{Block}
-use Rattle.job_sched.specs.declared.job.Wait.{Wait}
-use Rattle.job_sched.specs.declared.job.Wait.TheVariants as wait
 use Rattle.uuo_calls.specs.Performed.{World}
 use Rattle.uuo_calls.specs.Services.{service_of}
+use Rattle.uuo_calls.specs.declared.asked.LockService.{LockService}
+use Rattle.uuo_calls.specs.declared.asked.LockService.TheVariants.{Enq, Deq, Enqc}
 use Rattle.uuo_calls.specs.declared.service.Service.{Service}
 use Rattle.uuo_calls.specs.declared.service.Service.TheVariants as service
 use Rattle.machine.specs.Machine.{S}
 use Rattle.machine.specs.Views.{word_in}
-use Rattle.machine.specs.declared.view.JobView.{JobView}
-use Rattle.run_facts.specs.declared.answers.CallSeen.{CallSeen}
 use Rattle.run_notes.specs.declared.block_words.TheConstants.{ADDRESSES}
-use Rattle.run_notes.specs.declared.calls.LockService.{LockService}
-use Rattle.run_notes.specs.declared.calls.LockService.TheVariants.{Enq, Deq, Enqc}
 use Rattle.run_notes.specs.declared.calls.PendingCall.{PendingCall}
 use Rattle.run_notes.specs.declared.snapshot.Snapshot.{Snapshot}
 
@@ -82,7 +78,6 @@ block_of w job before call asked =
 abbrev pub call_of : World → ℕ → Snapshot → LockService → ℕ → PendingCall
 call_of w job before call ac = record {
   service = call;
-  ac = ac;
   asked = slice_index before.registers ac;
   block = block_of w job before call (slice_index before.registers ac);
 }
@@ -125,27 +120,6 @@ is_on_by None given_up name = given_up
 -- the job that wants the lock
 abbrev pub is_on : S → ℕ → Name → PendingCall → Bool
 is_on s job name call = is_on_by call.block (list_any (gives_up_lock call job name) s.world.requests) name
-
-abbrev pub is_enqueue : LockService → Bool
-is_enqueue Enq = true
-is_enqueue Deq = false
-is_enqueue Enqc = false
-
--- whether a wait is one for locks
-abbrev pub is_for_locks : Wait → Bool
-is_for_locks (wait.Queue ticks ac) = true
-is_for_locks _ = false
-
--- what is seen of a job behind its call, with the word that the accumulator has then
-abbrev pub seen_of : JobView → Snapshot → PendingCall → ℕ → CallSeen
-seen_of job before call left = record {
-  is_enqueue = is_enqueue call.service;
-  function = left_half call.asked;
-  is_stopped = is_some job.stop;
-  is_waiting = is_for_locks job.wait;
-  has_skipped = job.pc == (before.place + 2) % 2 ^ 18;
-  code = right_half left;
-}
 
 -- what a refusal means
 abbrev pub meaning_of : Refusal → List ℕ

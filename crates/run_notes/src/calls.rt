@@ -1,12 +1,9 @@
 //! Lock calls, reported as they are made.
 
-ghost use Rattle.std.specs.Prelude.{◌≡◌, ◌≢◌, ◌++◌, Some, IfOk, IfSome, OnOk, codes, string_bytes};
+ghost use Rattle.std.specs.Prelude.{◌≡◌, ◌++◌, IfOk, OnOk, string_bytes};
 ghost use Rattle.std.specs.List.{list_any};
-ghost use Rattle.lock_queue.specs.Refusals.{code_of};
-ghost use Rattle.lock_queue.specs.declared.refusal.Refusal.{Refusal};
-ghost use Rattle.run_facts.specs.Answers.{answer_of};
 ghost use Rattle.run_notes.specs.Calls.{block_of, block_use, gives_up, gives_up_lock, has_block, has_name, is_on};
-ghost use Rattle.run_notes.specs.Calls.{lock_service, meaning_of, pending_call, seen_of};
+ghost use Rattle.run_notes.specs.Calls.{lock_service, meaning_of, pending_call};
 ghost use Rattle.run_notes.specs.Words.{wants_words};
 
 use crate::block_words::words_of;
@@ -14,89 +11,79 @@ use crate::locks::push_lock;
 use crate::snapshot::Snapshot;
 use call_block::{Block, read_block};
 use concrete_machine::Machine;
-use job_sched::{NO_FLAGS, Wait};
+use job_sched::NO_FLAGS;
 use ka_cpu::{Accumulator, CallKind, CoreWords, Regs};
 use ka_isa::decode;
-use lock_queue::{BlockUse, Name, Refusal, Request, Want};
-use monitor::JobView;
-use run_facts::{CallAnswer, CallSeen, answer_of};
+use lock_queue::{BlockUse, LockReply, Name, Refusal, Request, Want};
+use run_events::Called;
 use std::alloc::{AllocError, Global};
 use std::fmt;
-use uuo_calls::{Service, service_of};
+use uuo_calls::{Asked, LockService, Service, service_of};
 use word36::{Address, Word};
 
 /// The operation CALLI.
 const CALLI: u16 = 0o47;
 
-/// A call on the lock queue.
-#[derive(Clone, Copy, PartialEq, Eq)]
-enum LockService {
-    Enq,
-    Deq,
-    Enqc,
+/// The lock call of an instruction with this effective address, if it makes one.
+fn lock_service(instruction: Word, address: Address) -> Option<LockService>
+    ensures { result ≡ lock_service instruction address }
+{
+    let fields = decode(instruction);
+    if fields.op != CALLI {
+        return None;
+    }
+    match service_of(CallKind::Calli, Accumulator::new(fields.ac), address) {
+        Service::Enq => Some(LockService::Enq),
+        Service::Deq => Some(LockService::Deq),
+        Service::Enqc => Some(LockService::Enqc),
+        _ => None,
+    }
 }
 
-impl LockService {
-    /// The lock call of an instruction with this effective address, if it makes one.
-    fn of(instruction: Word, address: Address) -> Option<Self>
-        ensures { result ≡ lock_service instruction address }
-    {
-        let fields = decode(instruction);
-        if fields.op != CALLI {
-            return None;
-        }
-        match service_of(CallKind::Calli, Accumulator::new(fields.ac), address) {
-            Service::Enq => Some(LockService::Enq),
-            Service::Deq => Some(LockService::Deq),
-            Service::Enqc => Some(LockService::Enqc),
-            _ => None,
-        }
+/// The name of a lock call.
+fn name_of(service: LockService) -> &'static str {
+    match service {
+        LockService::Enq => "ENQ.",
+        LockService::Deq => "DEQ.",
+        LockService::Enqc => "ENQC.",
     }
+}
 
-    fn name(self) -> &'static str {
-        match self {
-            LockService::Enq => "ENQ.",
-            LockService::Deq => "DEQ.",
-            LockService::Enqc => "ENQC.",
-        }
+/// What the function of a lock call asks for.
+fn function_meaning(service: LockService, function: u32) -> &'static str {
+    match (service, function) {
+        (LockService::Enq, 0) => "wait",
+        (LockService::Enq, 1) => "at once",
+        (LockService::Enq, 2) => "by interrupt",
+        (LockService::Enq, 3) => "change",
+        (LockService::Deq, 0) => "locks",
+        (LockService::Deq, 1) => "all",
+        (LockService::Deq, 2) => "by request",
+        (LockService::Enqc, 0) => "status",
+        (LockService::Enqc, 1) => "quota",
+        (LockService::Enqc, 2) => "lower the quota",
+        _ => "no such function",
     }
+}
 
-    /// What the call's function asks for.
-    fn meaning(self, function: u32) -> &'static str {
-        match (self, function) {
-            (LockService::Enq, 0) => "wait",
-            (LockService::Enq, 1) => "at once",
-            (LockService::Enq, 2) => "by interrupt",
-            (LockService::Enq, 3) => "change",
-            (LockService::Deq, 0) => "locks",
-            (LockService::Deq, 1) => "all",
-            (LockService::Deq, 2) => "by request",
-            (LockService::Enqc, 0) => "status",
-            (LockService::Enqc, 1) => "quota",
-            (LockService::Enqc, 2) => "lower the quota",
-            _ => "no such function",
-        }
+/// Whether a call names locks by a block.
+fn has_block(service: LockService, function: u32) -> bool
+    ensures { result ≡ has_block service function }
+{
+    match service {
+        LockService::Enq => function <= 3,
+        LockService::Deq | LockService::Enqc => function == 0,
     }
+}
 
-    /// Whether the call names locks by a block.
-    fn has_block(self, function: u32) -> bool
-        ensures { result ≡ has_block self function }
-    {
-        match self {
-            LockService::Enq => function <= 3,
-            LockService::Deq | LockService::Enqc => function == 0,
-        }
-    }
-
-    /// What a block's locks are there for.
-    fn block_use(self, function: u32) -> BlockUse
-        ensures { result ≡ block_use self function }
-    {
-        match (self, function) {
-            (LockService::Enq, 0) => BlockUse::Blocking,
-            (LockService::Enq, 1 | 2) => BlockUse::Full,
-            _ => BlockUse::Named,
-        }
+/// What a block's locks are there for.
+fn block_use(service: LockService, function: u32) -> BlockUse
+    ensures { result ≡ block_use service function }
+{
+    match (service, function) {
+        (LockService::Enq, 0) => BlockUse::Blocking,
+        (LockService::Enq, 1 | 2) => BlockUse::Full,
+        _ => BlockUse::Named,
     }
 }
 
@@ -130,8 +117,6 @@ impl fmt::Display for CodeText {
 #[derive(Drop)]
 pub struct PendingCall {
     service: LockService,
-    /// The number of the accumulator, AC.
-    ac: u8,
     /// The word in AC: the function and the block's address.
     asked: Word,
     /// The block, if the call has a valid one.
@@ -149,7 +134,7 @@ fn block_of(
 ) -> Result<Option<Block>, AllocError>
     ensures { IfOk result (λ block. block ≡ block_of machine.now.world number before.now service asked) }
 {
-    if !service.has_block(asked.left()) {
+    if !has_block(service, asked.left()) {
         return Ok(None);
     }
     let mut words = words_of(alloc, machine, number)?;
@@ -162,7 +147,7 @@ fn block_of(
         words: words.as_mut_slice(),
     };
     let address = Address::new(asked.right());
-    let block_use = service.block_use(asked.left());
+    let block_use = block_use(service, asked.left());
     Ok(read_block(&regs, &memory, address, number, block_use).ok())
 }
 
@@ -180,14 +165,13 @@ impl PendingCall {
             return Ok(None);
         };
         let address = Address::new(address & 0o777_777);
-        let Some(service) = LockService::of(before.executed, address) else {
+        let Some(service) = lock_service(before.executed, address) else {
             return Ok(None);
         };
         let ac = decode(before.executed).ac;
         let asked = before.registers[usize::from(ac)];
         Ok(Some(PendingCall {
             service,
-            ac,
             asked,
             block: block_of(alloc, machine, number, before, service, asked)?,
         }))
@@ -241,34 +225,6 @@ fn has_name(wants: &[Want], name: &Name) -> bool
     wants.iter().any(|want| want.key.name.is_same(name))
 }
 
-/// The refusal of a code, if there is one.
-fn refusal_of(code: u32) -> Option<Refusal>
-    ensures found { IfSome result (λ refusal. code_of refusal ≡ code) }
-    ensures all { (refusal : Refusal) → code_of refusal ≡ code → result ≡ Some refusal }
-{
-    match code {
-        1 => Some(Refusal::NotGranted),
-        2 => Some(Refusal::NoFunction),
-        3 => Some(Refusal::BadBlock),
-        4 => Some(Refusal::BadCount),
-        5 => Some(Refusal::BadPointer),
-        6 => Some(Refusal::BadName),
-        7 => Some(Refusal::BadQualifier),
-        8 => Some(Refusal::BadPool),
-        9 => Some(Refusal::Differs),
-        10 => Some(Refusal::LevelOrder),
-        11 => Some(Refusal::NamedAlready),
-        12 => Some(Refusal::NotPresent),
-        13 => Some(Refusal::WouldLose),
-        14 => Some(Refusal::QueueFull),
-        15 => Some(Refusal::NoVector),
-        16 => Some(Refusal::OverQuota),
-        17 => Some(Refusal::TimedOut),
-        18 => Some(Refusal::NoSuchQuota),
-        _ => None,
-    }
-}
-
 /// What a refusal means.
 fn meaning_of(refusal: Refusal) -> &'static str
     ensures { result.now ≡ meaning_of refusal }
@@ -292,17 +248,6 @@ fn meaning_of(refusal: Refusal) -> &'static str
         Refusal::OverQuota => "the job has as many requests as it may have",
         Refusal::TimedOut => "its time limit ended",
         Refusal::NoSuchQuota => "no such job, or the quota would be greater",
-    }
-}
-
-/// What the code of a refused call means.
-fn code_meaning(code: u32) -> &'static str
-    ensures meaning { (refusal : Refusal) → code_of refusal ≡ code → result.now ≡ meaning_of refusal }
-    ensures unknown { ((refusal : Refusal) → code_of refusal ≢ code) → result.now ≡ codes "no such code" }
-{
-    match refusal_of(code) {
-        Some(refusal) => meaning_of(refusal),
-        None => "no such code",
     }
 }
 
@@ -339,12 +284,12 @@ pub fn push_wants(text: &mut String, wants: &[Want]) -> Result<(), AllocError>
 fn push_block(
     text: &mut String,
     machine: &Machine,
-    number: u8,
-    call: &PendingCall,
+    called: &Called,
     block: &Block,
 ) -> Result<(), AllocError> {
+    let asked = called.asked;
     let mut added = Ok(());
-    if call.service.block_use(call.asked.left()) != BlockUse::Named {
+    if block_use(asked.service, asked.word.left()) != BlockUse::Named {
         let id = IdText(block.id.number());
         added = write!(text, ", request {id}");
     }
@@ -353,8 +298,8 @@ fn push_block(
         added = added.and(write!(text, ", limit {limit} ticks"));
     }
     let wants = block.wants.as_slice();
-    let named = if call.service == LockService::Enqc {
-        push_statuses(text, machine, number, wants)
+    let named = if matches!(asked.service, LockService::Enqc) {
+        push_statuses(text, machine, called.job, wants)
     } else {
         push_wants(text, wants)
     };
@@ -362,54 +307,54 @@ fn push_block(
 }
 
 /// Adds what a call names besides its block: `, request 7.`, `, job 3` or `, to 5`.
-fn push_other(text: &mut String, number: u8, call: &PendingCall) -> Result<(), AllocError> {
-    let named = call.asked.right();
-    match (call.service, call.asked.left()) {
+fn push_other(text: &mut String, called: &Called) -> Result<(), AllocError> {
+    let (job, asked) = (called.job, called.asked);
+    let named = asked.word.right();
+    match (asked.service, asked.word.left()) {
         (LockService::Deq, 2) => write!(text, ", request {}", IdText(named)),
-        (LockService::Enqc, 1) if named == 0 => write!(text, ", job {number}"),
+        (LockService::Enqc, 1) if named == 0 => write!(text, ", job {job}"),
         (LockService::Enqc, 1) => write!(text, ", job {named}"),
         (LockService::Enqc, 2) => write!(text, ", to {named}"),
         _ => Ok(()),
     }
 }
 
-/// What a call answered, by how its job stands behind the call and by the word that its accumulator has then.
-fn answer_in(job: &JobView, before: &Snapshot, call: &PendingCall, left: Word) -> CallAnswer
-    ensures { result ≡ answer_of (seen_of job.now before.now call.now left) }
-{
-    answer_of(CallSeen {
-        is_enqueue: matches!(call.service, LockService::Enq),
-        function: call.asked.left(),
-        is_stopped: job.stop.is_some(),
-        is_waiting: matches!(job.wait, Wait::Queue(_, _)),
-        has_skipped: job.pc == before.place.plus(2),
-        code: left.right(),
-    })
+/// Adds what a refused call was answered. The request of an ENQ. 2 that is not granted at once stays.
+fn push_refusal(text: &mut String, asked: Asked, refusal: Refusal) -> Result<(), AllocError> {
+    match (asked.service, asked.word.left(), refusal) {
+        (LockService::Enq, 2, Refusal::NotGranted) => {
+            text.push_str("queued, it will be told (code 1)")
+        }
+        _ => {
+            let code = CodeText(u32::from(refusal.code()));
+            let meaning = meaning_of(refusal);
+            write!(text, "refused, code {code}: {meaning}")
+        }
+    }
 }
 
-/// Adds what a call answered.
-fn push_answer(
-    text: &mut String,
-    answer: CallAnswer,
-    call: &PendingCall,
-    left: Word,
-) -> Result<(), AllocError> {
-    let said = match answer {
-        CallAnswer::Stopped => "the job is stopped",
-        CallAnswer::Waits => "queued, the job waits",
-        CallAnswer::Granted => "granted",
-        CallAnswer::NotifiedLater => "queued, it will be told (code 1)",
-        CallAnswer::Refused(code) => {
-            let meaning = code_meaning(code);
-            return write!(text, "refused, code {}: {meaning}", CodeText(code));
-        }
-        CallAnswer::Done if call.service == LockService::Enqc && call.asked.left() == 1 => {
+/// Adds what a call was answered that is done: ENQC. 1 has the quota and the number of requests in its accumulator.
+fn push_done(text: &mut String, machine: &Machine, called: &Called) -> Result<(), AllocError> {
+    let asked = called.asked;
+    match (asked.service, asked.word.left()) {
+        (LockService::Enqc, 1) => {
+            let left = machine.peek(called.job, u32::from(asked.ac));
+            let left = left.unwrap_or(Word::new(0));
             let (quota, requests) = (left.left(), left.right());
-            return write!(text, "done, quota {quota}, requests {requests}");
+            write!(text, "done, quota {quota}, requests {requests}")
         }
-        CallAnswer::Done => "done",
-    };
-    text.push_str(said)
+        _ => text.push_str("done"),
+    }
+}
+
+/// Adds what a call was answered.
+fn push_answer(text: &mut String, machine: &Machine, called: &Called) -> Result<(), AllocError> {
+    match called.reply {
+        LockReply::Granted => text.push_str("granted"),
+        LockReply::Queued => text.push_str("queued, the job waits"),
+        LockReply::Refused(refusal) => push_refusal(text, called.asked, refusal),
+        LockReply::Done => push_done(text, machine, called),
+    }
 }
 
 /// Adds the line on a lock call, without its end. Where the block was refused, no locks are named.
@@ -417,44 +362,34 @@ fn push_call(
     text: &mut String,
     machine: &Machine,
     tick: u64,
-    number: u8,
-    call: &PendingCall,
+    called: &Called,
 ) -> Result<(), AllocError> {
-    let function = call.asked.left();
-    let name = call.service.name();
-    let meaning = call.service.meaning(function);
+    let (job, asked) = (called.job, called.asked);
+    let function = asked.word.left();
+    let name = name_of(asked.service);
+    let meaning = function_meaning(asked.service, function);
     let head = write!(
         text,
-        "tick {tick}, job {number}: {name} {function:o} ({meaning})"
+        "tick {tick}, job {job}: {name} {function:o} ({meaning})"
     );
-    let named = match &call.block {
-        Some(block) => push_block(text, machine, number, call, block),
-        None => push_other(text, number, call),
+    let named = match &called.block {
+        Some(Ok(block)) => push_block(text, machine, called, block),
+        _ => push_other(text, called),
     };
     head.and(named)
 }
 
-/// The line on a lock call that a job has made; empty where the job is gone.
+/// The line on a lock call that a job has made. `machine` is as the call left it.
 pub fn call_line(
     alloc: Global,
     machine: &Machine,
     tick: u64,
-    number: u8,
-    before: &Snapshot,
-    call: &PendingCall,
+    called: &Called,
 ) -> Result<String, AllocError> {
     let mut text = String::new(alloc);
-    let Some(job) = machine.job(number) else {
-        return Ok(text);
-    };
-    let left = match machine.peek(number, u32::from(call.ac)) {
-        Some(left) => left,
-        None => Word::new(0),
-    };
-    let answer = answer_in(&job, before, call, left);
-    push_call(&mut text, machine, tick, number, call)
+    push_call(&mut text, machine, tick, called)
         .and(text.push_str(": "))
-        .and(push_answer(&mut text, answer, call, left))
+        .and(push_answer(&mut text, machine, called))
         .and(text.push_str("\n"))
         .and(Ok(text))
 }

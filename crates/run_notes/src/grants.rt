@@ -1,23 +1,22 @@
 //! Grants and ended time limits, reported as they come.
 ghost use Rattle.std.specs.Prelude.{◌≡◌, ◌++◌, IfOk, OnOk, string_bytes};
-ghost use Rattle.run_facts.specs.Grants.{waiting_id};
 ghost use Rattle.run_notes.specs.Words.{grant_words, grants_words, limit_words};
 
 use crate::calls::push_wants;
-use lock_queue::Request;
-use run_facts::{is_new_grant, waiting_id};
+use lock_queue::{Request, RequestId};
+use run_facts::is_new_grant;
 use std::alloc::{AllocError, Global};
 
-/// The line on a job whose time limit ended: the request by which it waited before is gone.
+/// The line on a job whose time limit ended, and with it this request.
 pub fn limit_line(
     alloc: Global,
     tick: u64,
     number: u8,
-    before: &[Request],
+    request: Option<RequestId>,
 ) -> Result<String, AllocError>
-    ensures { IfOk result (λ text. string_bytes text ≡ limit_words tick number (waiting_id before.now number)) }
+    ensures { IfOk result (λ text. string_bytes text ≡ limit_words tick number request) }
 {
-    match waiting_id(before, number) {
+    match request {
         Some(id) => {
             let id = id.number();
             format!(in alloc;
@@ -39,6 +38,15 @@ fn push_grant(text: &mut String, tick: u64, request: &Request) -> Result<(), All
     write!(text, "tick {tick}, job {job}: granted request {id}.")?;
     push_wants(text, request.wants.as_slice())?;
     text.push_str("\n")
+}
+
+/// The line on a request that is granted.
+pub fn grant_line(alloc: Global, tick: u64, request: &Request) -> Result<String, AllocError>
+    ensures { IfOk result (λ text. string_bytes text ≡ grant_words tick request.now) }
+{
+    let mut text = String::new(alloc);
+    push_grant(&mut text, tick, request)?;
+    Ok(text)
 }
 
 /// Adds a line on each request that is granted now and was not before.

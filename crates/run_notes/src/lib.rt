@@ -21,7 +21,7 @@ mod wait_lines;
 pub use calls::{PendingCall, call_line};
 pub use circle_lines::{circle_line, circle_of, has_circle};
 pub use followed::effective_address;
-pub use grants::{grant_lines, limit_line};
+pub use grants::{grant_line, grant_lines, limit_line};
 pub use instructions::{InstructionText, Reference};
 pub use job_stops::stop_text;
 pub use snapshot::{Snapshot, snapshot_of};

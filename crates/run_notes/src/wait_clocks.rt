@@ -252,6 +252,25 @@ impl WaitClocks {
         Ok(())
     }
 
+    /// In how many ticks the first of these waits is longer than is to be reported; a great number if none will be.
+    /// `requests` are those of the machine.
+    pub fn ticks_to_overdue(&self, tick: u64, requests: &[Request]) -> u64 {
+        let mut least = u64::MAX;
+        for (clock, request) in self.clocks.as_slice().iter().zip(requests) {
+            if self.is_running(clock, request) {
+                let due = clock.since.saturating_add(self.most).saturating_add(1);
+                least = least.min(due.saturating_sub(tick));
+            }
+        }
+        least
+    }
+
+    /// Whether the clock of a request runs towards a report: the request makes its job wait, which was not reported.
+    fn is_running(&self, clock: &Clock, request: &Request) -> bool {
+        let is_silent = clock.is_granted || clock.is_reported;
+        !is_silent && request.kind == EnqueueKind::Blocking
+    }
+
     /// A line on each job that waits for longer than is to be reported, once for each wait. `requests` are those
     /// of the machine.
     pub fn overdue(

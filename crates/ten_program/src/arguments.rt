@@ -1,4 +1,6 @@
 //! The command line.
+ghost use Rattle.std.specs.Prelude.{IfOk};
+ghost use Rattle.ten_program.specs.Outputs.{HasOutputs};
 
 use crate::options::Options;
 use crate::texts;
@@ -6,8 +8,8 @@ use clap::{Arg, ArgMatches, Command};
 use machine::{Config, MOST_QUANTUM};
 use program_files::{make_from, packing_in};
 use program_shell::{
-    Refusal, Wrong, files_in, make_command, make_flag, make_option, matches_of, number_of, refused,
-    size_in, with_files,
+    NameEnd, Refusal, Wrong, files_in, make_command, make_flag, make_option, matches_of, number_of,
+    output_in, refused, size_in, with_files,
 };
 use shown_bytes::shown_text;
 use source_labels::MOST_REPORTED;
@@ -23,13 +25,15 @@ const MOST_HISTORY: u64 = 10_000;
 const MOST_FAULTS: u64 = 1000;
 
 /// How the name of a picture ends, so that no source is written over by one that is named in its place.
-const PICTURE_END: &str = ".svg";
+const PICTURE_END: NameEnd = NameEnd::With(".svg");
 
 /// How the name of a script ends, for the same reason.
-const RECORD_END: &str = ".run";
+const RECORD_END: NameEnd = NameEnd::With(".run");
 
 /// What the arguments, which begin with the program's name, ask for.
-pub fn read_arguments<'a>(alloc: Global, arguments: &'a [String]) -> Result<Options<'a>, Refusal> {
+pub fn read_arguments<'a>(alloc: Global, arguments: &'a [String]) -> Result<Options<'a>, Refusal>
+    ensures { IfOk result HasOutputs }
+{
     match ten_command(alloc) {
         Ok(mut command) => read_by(alloc, &mut command, arguments),
         Err(_) => Err(Refusal::Memory),
@@ -41,7 +45,9 @@ fn read_by<'a>(
     alloc: Global,
     command: &mut Command<'a>,
     arguments: &'a [String],
-) -> Result<Options<'a>, Refusal> {
+) -> Result<Options<'a>, Refusal>
+    ensures { IfOk result HasOutputs }
+{
     let matches = matches_of(command, arguments)?;
     match options_in(alloc, &matches) {
         Ok(options) => Ok(options),
@@ -76,7 +82,9 @@ fn ten_command<'a>(alloc: Global) -> Result<Command<'a>, AllocError> {
 }
 
 /// What is asked for by what `clap` took.
-fn options_in<'a>(alloc: Global, matches: &ArgMatches<'a>) -> Result<Options<'a>, Wrong<'a>> {
+fn options_in<'a>(alloc: Global, matches: &ArgMatches<'a>) -> Result<Options<'a>, Wrong<'a>>
+    ensures { IfOk result HasOutputs }
+{
     let size = size_in(matches, MOST_QUANTUM)?;
     let steps = number_of(matches, "steps", MOST_STEPS)?.unwrap_or(u64::MAX);
     let history = number_of(matches, "history", MOST_HISTORY)?.unwrap_or(0);
@@ -91,8 +99,8 @@ fn options_in<'a>(alloc: Global, matches: &ArgMatches<'a>) -> Result<Options<'a>
         locks: matches.get_flag("locks"),
         history: history as usize,
         waits,
-        picture: file_in(matches, "picture", PICTURE_END)?,
-        record: file_in(matches, "record", RECORD_END)?,
+        picture: output_in(matches, "picture", PICTURE_END, files.as_slice())?,
+        record: output_in(matches, "record", RECORD_END, files.as_slice())?,
         echo: matches.get_flag("echo"),
         faults: faults.unwrap_or(MOST_REPORTED as u64) as usize,
         names: shown_names(alloc, files.as_slice())?,
@@ -107,19 +115,4 @@ fn shown_names(alloc: Global, files: &[&str]) -> Result<Vec<String>, AllocError>
         names.push(shown_text(alloc, file.as_bytes())?)?;
     }
     Ok(names)
-}
-
-/// The file of an option, if it is given; its name has to end so.
-fn file_in<'a>(
-    matches: &ArgMatches<'a>,
-    option: &'static str,
-    ending: &'static str,
-) -> Result<Option<&'a str>, Wrong<'a>> {
-    let Some(written) = matches.get_str(option) else {
-        return Ok(None);
-    };
-    if !written.ends_with(ending) {
-        return Err(Wrong::Ending(option, written, ending));
-    }
-    Ok(Some(written))
 }

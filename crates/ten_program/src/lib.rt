@@ -7,7 +7,6 @@ mod history;
 mod host;
 mod jobs;
 mod loading;
-mod next_steps;
 mod notes;
 mod options;
 mod picture;

@@ -2,16 +2,15 @@
 
 use crate::history::History;
 use crate::jobs::RunningJob;
-use crate::next_steps::NextStep;
 use crate::options::Options;
 use concrete_machine::Machine;
-use ka_isa::{Family, classify, decode};
 use lock_queue::Request;
 use monitor::JobView;
 use program_shell::PendingText;
+use run_events::Fact;
 use run_notes::{
-    Snapshot, TracedJob, WaitClocks, call_line, circle_line, circle_of, grant_lines, limit_line,
-    step_line, time_limit_line,
+    Snapshot, TracedJob, WaitClocks, call_line, circle_line, circle_of, grant_line, limit_line,
+    snapshot_of, step_line, time_limit_line,
 };
 use std::alloc::{AllocError, Global};
 
@@ -28,7 +27,7 @@ pub struct Notes {
     clocks: Option<WaitClocks>,
     /// The requests for locks, as they were when they were last copied.
     requests: Vec<Request>,
-    /// A row for each job, by number from 1 on; none where nothing is reported of steps.
+    /// A row for each job, by number from 1 on; none if no steps are reported.
     jobs: Vec<JobNotes>,
 }
 
@@ -36,43 +35,9 @@ pub struct Notes {
 #[derive(Drop)]
 struct JobNotes {
     /// What it does next.
-    next_step: NextStep,
+    next_step: Snapshot,
     /// Its last steps.
     history: History,
-}
-
-/// Whether a step may have changed the requests for locks: it was a call, or it stopped or ended its job.
-fn may_change_requests(machine: &Machine, number: u8, before: &Snapshot) -> bool {
-    if classify(decode(before.executed).op) == Family::Calli {
-        return true;
-    }
-    match machine.job(number) {
-        Some(job) => job.stop.is_some(),
-        None => true,
-    }
-}
-
-/// Reports a job's lock call, if its turn was one.
-fn report_call(
-    machine: &Machine,
-    tick: u64,
-    number: u8,
-    next_step: &NextStep,
-    errors: &mut PendingText,
-) {
-    if let Some(call) = &next_step.call {
-        if !next_step.snapshot.is_interrupted(machine, number) {
-            let line = call_line(
-                errors.alloc,
-                machine,
-                tick,
-                number,
-                &next_step.snapshot,
-                call,
-            );
-            errors.say_made(line);
-        }
-    }
 }
 
 /// Reports the circle of waits that a job closed in this step, in which it began to wait for locks; if it closed one.
@@ -95,7 +60,7 @@ impl JobNotes {
         is_reported: bool,
         errors: &mut PendingText,
     ) {
-        let line = step_line(errors.alloc, machine, tick, job, &self.next_step.snapshot);
+        let line = step_line(errors.alloc, machine, tick, job, &self.next_step);
         if is_reported {
             errors.say_made(line);
             return;
@@ -127,12 +92,12 @@ impl Notes {
         }
     }
 
-    /// Whether the requests for locks are watched.
-    fn watches_requests(&self) -> bool {
-        self.locks || self.clocks.is_some()
+    /// Whether each step is looked at, before it is made and after it.
+    pub fn watches_steps(&self) -> bool {
+        self.trace || self.history
     }
 
-    /// Takes down what each job does next, where steps are reported or drawn. None has run yet.
+    /// Takes down what each job does next, if steps are reported. None has run yet.
     pub fn prepare_all(
         &mut self,
         alloc: Global,
@@ -140,10 +105,9 @@ impl Notes {
         jobs: &[RunningJob],
         options: &Options<'_>,
     ) -> Result<(), AllocError> {
-        let is_reported = self.trace || self.history || self.watches_requests();
-        if is_reported || options.picture.is_some() {
+        if self.watches_steps() {
             for job in jobs {
-                let next_step = NextStep::of(alloc, machine, &job.traced, self.locks)?;
+                let next_step = snapshot_of(machine, job.traced.number, job.traced.next);
                 let history = History::new(alloc, options.history);
                 self.jobs.push(JobNotes { next_step, history })?;
             }
@@ -157,39 +121,42 @@ impl Notes {
     }
 
     /// Takes down what a job does next.
-    pub fn prepare(&mut self, machine: &Machine, job: &TracedJob, errors: &mut PendingText) {
-        let with_calls = self.locks;
+    pub fn prepare(&mut self, machine: &Machine, job: &TracedJob) {
         if let Some(notes) = self.notes_of(job.number) {
-            match NextStep::of(errors.alloc, machine, job, with_calls) {
-                Ok(next_step) => notes.next_step = next_step,
-                Err(_) => errors.fail(),
-            }
+            notes.next_step = snapshot_of(machine, job.number, job.next);
         }
     }
 
-    /// Reports a turn of a job, by what was taken down before it. Says whether the requests for locks may have
-    /// changed in it; false where nothing is taken down.
+    /// Reports a turn of a job, by what was taken down before it.
     pub fn report_turn(
         &mut self,
         machine: &Machine,
         tick: u64,
         job: &TracedJob,
         errors: &mut PendingText,
-    ) -> bool {
-        let (trace, history, locks) = (self.trace, self.history, self.locks);
-        let Some(notes) = self.notes_of(job.number) else {
-            return false;
-        };
-        if trace || history {
+    ) {
+        let trace = self.trace;
+        if let Some(notes) = self.notes_of(job.number) {
             notes.note_step(machine, tick, job, trace, errors);
         }
-        if locks {
-            report_call(machine, tick, job.number, &notes.next_step, errors);
-        }
-        may_change_requests(machine, job.number, &notes.next_step.snapshot)
     }
 
-    /// Reports that a job's wait for locks ended with its time limit. `after` is how it stands now.
+    /// Reports a fact of a step or a tick.
+    pub fn report_fact(&self, machine: &Machine, tick: u64, fact: &Fact, errors: &mut PendingText) {
+        if !self.locks {
+            return;
+        }
+        let alloc = errors.alloc;
+        match fact {
+            Fact::Called(called) => errors.say_made(call_line(alloc, machine, tick, called)),
+            Fact::Granted(request) => errors.say_made(grant_line(alloc, tick, request)),
+            Fact::LimitEnded(job, id) => errors.say_made(limit_line(alloc, tick, *job, *id)),
+            _ => {}
+        }
+    }
+
+    /// Reports, where each step is reported, that a job's wait for locks ended with its time limit. `after` is how
+    /// it stands now.
     pub fn report_limit(
         &self,
         tick: u64,
@@ -197,34 +164,31 @@ impl Notes {
         after: &JobView,
         errors: &mut PendingText,
     ) {
-        let alloc = errors.alloc;
         if self.trace {
-            errors.say_made(time_limit_line(alloc, tick, job, after));
-        }
-        if self.locks {
-            let requests = self.requests.as_slice();
-            errors.say_made(limit_line(alloc, tick, job.number, requests));
+            errors.say_made(time_limit_line(errors.alloc, tick, job, after));
         }
     }
 
-    /// Reports the grants since the requests were last copied, and copies them anew.
-    pub fn report_grants(&mut self, machine: &Machine, tick: u64, errors: &mut PendingText) {
-        if !self.watches_requests() {
-            return;
-        }
-        let alloc = errors.alloc;
-        let Ok(requests) = machine.requests(alloc) else {
-            errors.fail();
-            return;
-        };
-        let (before, now) = (self.requests.as_slice(), requests.as_slice());
-        if self.locks {
-            errors.say_made(grant_lines(alloc, tick, before, now));
-        }
+    /// Reports how long grants took that came since the requests were last copied, and copies these anew.
+    pub fn report_waits(&mut self, machine: &Machine, tick: u64, errors: &mut PendingText) {
         if let Some(clocks) = &mut self.clocks {
+            let alloc = errors.alloc;
+            let Ok(requests) = machine.requests(alloc) else {
+                errors.fail();
+                return;
+            };
+            let (before, now) = (self.requests.as_slice(), requests.as_slice());
             errors.say_made(clocks.note(alloc, tick, before, now));
+            self.requests = requests;
         }
-        self.requests = requests;
+    }
+
+    /// In how many ticks the next wait is too long; a great number if none is.
+    pub fn ticks_to_overdue(&self, tick: u64) -> u64 {
+        match &self.clocks {
+            Some(clocks) => clocks.ticks_to_overdue(tick, self.requests.as_slice()),
+            None => u64::MAX,
+        }
     }
 
     /// Reports jobs that wait for locks for longer than the options say.

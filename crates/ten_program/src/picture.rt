@@ -27,6 +27,11 @@ impl Picture {
         }
     }
 
+    /// Whether the run is drawn.
+    pub fn is_drawn(&self) -> bool {
+        self.course.is_some()
+    }
+
     /// Draws how the locks stand behind the step of this tick, where that is asked for.
     pub fn draw(&mut self, alloc: Global, machine: &Machine, tick: u64) -> Result<(), AllocError> {
         if let Some(course) = &mut self.course {

@@ -49,6 +49,16 @@ impl Recording {
         }
     }
 
+    /// Takes down so many steps, each with its tick, where that is recorded.
+    pub fn add_rounds(&mut self, rounds: u64) {
+        if self.events.is_some() {
+            for _ in 0..rounds {
+                self.add(RunEvent::Step);
+                self.add(RunEvent::Tick);
+            }
+        }
+    }
+
     /// The run on a machine of this size as a script, where it is recorded.
     pub fn script(&self, alloc: Global, config: Config) -> Result<Option<Vec<u8>>, AllocError> {
         match &self.events {

@@ -7,12 +7,13 @@ use concrete_machine::Machine;
 use program_shell::{Failure, Host, Stream};
 
 /// Types lines of the input as long as jobs wait for characters and lines come. With `echo` each is added to the output.
+/// Returns whether a line is wanted that has not come yet.
 fn type_awaited<H: Host>(
     host: &mut H,
     session: &mut Session,
     machine: &mut Machine,
     echo: bool,
-) -> Result<(), Failure> {
+) -> Result<bool, Failure> {
     let (typing, jobs) = (&mut session.typing, session.jobs.as_slice());
     let recording = &mut session.recording;
     typing.type_on(machine, recording);
@@ -23,7 +24,7 @@ fn type_awaited<H: Host>(
         let has_come = host.next_text(&mut typing.text)?;
         typing.has_ended = host.has_ended();
         if !has_come {
-            break;
+            return Ok(!typing.has_ended);
         }
         if typing.begin(machine, jobs, recording).is_err() {
             return Err(Failure::Memory);
@@ -32,10 +33,10 @@ fn type_awaited<H: Host>(
             session.output.add(typing.text.as_slice());
         }
     }
-    Ok(())
+    Ok(false)
 }
 
-/// Makes at most as many steps as the options say, until no job goes on. True where it made them all.
+/// Makes at most as many steps as the options say, until no job goes on. True if it made them all.
 fn run<H: Host>(
     host: &mut H,
     session: &mut Session,
@@ -43,11 +44,16 @@ fn run<H: Host>(
     options: &Options<'_>,
 ) -> Result<bool, Failure> {
     let mut is_cut = true;
+    let mut left = options.steps;
     for _ in 0..options.steps {
-        type_awaited(host, session, machine, options.echo)?;
-        let turn = session.step(machine);
+        if left == 0 {
+            break;
+        }
+        let is_wanted = type_awaited(host, session, machine, options.echo)?;
+        let step = session.step(machine, if is_wanted { 1 } else { left });
+        left = left.saturating_sub(step.made);
         write_pending(host, Stream::Output, &mut session.output)?;
-        let goes_on = session.end_round(machine, turn);
+        let goes_on = session.end_round(machine, step.turn);
         write_pending(host, Stream::Errors, &mut session.errors)?;
         if !goes_on {
             is_cut = false;

@@ -1,5 +1,7 @@
 //! A run of programs: its jobs, and what is typed, reported and drawn.
 
+ghost use Rattle.std.specs.Prelude.{◌≤◌};
+
 use crate::jobs::RunningJob;
 use crate::loading::{assemble_all, log_in_all};
 use crate::notes::{Notes, report_circle};
@@ -13,15 +15,17 @@ use concrete_machine::Machine;
 use machine::MOST_TAKES;
 use monitor::{Answer, Event};
 use program_shell::PendingText;
+use run_events::{Fact, RoundsMade};
 use run_facts::{Ending, has_ended_well, status_of};
 use run_notes::{has_circle, standing_of};
 use run_record::RunEvent;
 use source_labels::Source;
 use std::alloc::{AllocError, Global};
-use word36::{Image, TAKEN_AT_ONCE};
+use uuo_calls::BlockRoom;
+use word36::{Address, Image, TAKEN_AT_ONCE};
 
-/// A step, and the tick behind it.
-const ROUND: [Event<'static>; 2] = [Event::Step, Event::Tick];
+/// So many rounds are made at once at most.
+const MOST_AT_ONCE: u64 = 1_000_000;
 
 /// A run of programs: its jobs, and what is typed, reported and drawn. The machine stands beside it.
 #[derive(Drop)]
@@ -34,8 +38,10 @@ pub struct Session {
     pub output: PendingText,
     /// What is reported and not yet written.
     pub errors: PendingText,
-    /// Whether a job may wait for locks with a time limit.
-    is_limited: bool,
+    /// Room for the block of a lock call.
+    room: BlockRoom,
+    /// The facts of the last step.
+    facts: Vec<Fact>,
     /// How many ticks went by.
     ticks: u64,
     /// What is reported of the run while it goes on.
@@ -51,8 +57,8 @@ pub struct Session {
 pub struct Turn {
     /// The number of the job.
     job: u8,
-    /// What it waits for since then.
-    waits: Waits,
+    /// Whether it made a monitor call.
+    has_called: bool,
 }
 
 /// Takes what a job has typed out; false where there is nothing.
@@ -74,6 +80,15 @@ fn take_output(machine: &mut Machine, terminal: &mut Terminal, output: &mut Pend
     has_some
 }
 
+/// What some rounds came to.
+#[derive(Clone, Copy)]
+pub struct StepMade {
+    /// How many they are.
+    pub made: u64,
+    /// The turn of the last, if a job was ready.
+    pub turn: Option<Turn>,
+}
+
 impl Session {
     /// A run without jobs, of which the options say what is reported and drawn.
     pub fn new(alloc: Global, options: &Options<'_>) -> Self {
@@ -82,7 +97,8 @@ impl Session {
             typing: Typing::new(alloc),
             output: PendingText::new(alloc),
             errors: PendingText::new(alloc),
-            is_limited: false,
+            room: BlockRoom::new(),
+            facts: Vec::new(alloc),
             ticks: 0,
             notes: Notes::new(alloc, options),
             picture: Picture::new(alloc, options.picture.is_some()),
@@ -131,43 +147,94 @@ impl Session {
         true
     }
 
-    /// Makes a step, and gives whose turn it was. What that job typed out is in `output`, to be written now.
-    pub fn step(&mut self, machine: &mut Machine) -> Option<Turn> {
-        let answer = machine.event(&ROUND[0]);
-        self.recording.add(RunEvent::Step);
-        match answer {
-            Answer::Ran(number) => Some(self.note_step(machine, number)),
-            _ => None,
+    /// How many of so many rounds may be made at once: one, if each step is looked at, and else up to the tick at which
+    /// a wait is too long.
+    fn most_at_once(&self, wanted: u64) -> u32
+        ensures { 1 ≤ result }
+    {
+        if self.notes.watches_steps() || self.picture.is_drawn() {
+            return 1;
+        }
+        let most = wanted.min(self.notes.ticks_to_overdue(self.ticks));
+        if most == 0 {
+            1
+        } else if most > MOST_AT_ONCE {
+            MOST_AT_ONCE as u32
+        } else {
+            most as u32
         }
     }
 
-    /// A job ran: counts the step, and takes what it typed out.
-    fn note_step(&mut self, machine: &mut Machine, number: u8) -> Turn {
-        let mut turn = Turn {
-            job: number,
-            waits: Waits::NONE,
+    /// Makes the next rounds but for the last tick, `most` at most: those of one job, up to the first step by which
+    /// there may be something to report. What the job typed out is in `output`, to be written now.
+    pub fn step(&mut self, machine: &mut Machine, most: u64) -> StepMade {
+        let most = self.most_at_once(most);
+        let Ok(rounds) = machine.rounds_facts(self.errors.alloc, &mut self.room, most) else {
+            self.errors.fail();
+            return StepMade {
+                made: 1,
+                turn: None,
+            };
         };
-        let Some(job) = self.jobs.get_mut(usize::from(number).saturating_sub(1)) else {
-            return turn;
-        };
-        job.steps = job.steps.saturating_add(1);
-        job.traced.last = job.traced.next;
-        if let Some(view) = machine.job(number) {
-            job.traced.next = view.pc;
-            turn.waits = Waits::of(&view);
+        let RoundsMade {
+            made,
+            job,
+            has_called,
+            at,
+            facts,
+        } = rounds;
+        let made = u64::from(made);
+        self.facts = facts;
+        self.recording.add_rounds(made.saturating_sub(1));
+        self.recording.add(RunEvent::Step);
+        self.ticks = self.ticks.saturating_add(made.saturating_sub(1));
+        match job {
+            Some(job) => {
+                let turn = Turn { job, has_called };
+                self.note_step(machine, turn, made, at);
+                StepMade {
+                    made,
+                    turn: Some(turn),
+                }
+            }
+            None => StepMade { made, turn: None },
         }
-        self.typing.is_awaited |= turn.waits.input;
-        self.is_limited |= turn.waits.limit;
+    }
+
+    /// A job ran: counts its steps, and takes what it typed out by a call. `at` is its PC before the last step.
+    fn note_step(&mut self, machine: &mut Machine, turn: Turn, steps: u64, at: Address) {
+        let Some(job) = self.jobs.get_mut(usize::from(turn.job).saturating_sub(1)) else {
+            return;
+        };
+        job.steps = job.steps.saturating_add(steps);
+        job.traced.last = at;
+        if let Some(view) = machine.job(turn.job) {
+            job.traced.next = view.pc;
+        }
+        if turn.has_called {
+            self.take_output(machine, turn.job);
+        }
+    }
+
+    /// Takes what a job typed out, and looks whether it waits for characters now.
+    fn take_output(&mut self, machine: &mut Machine, number: u8) {
+        let Some(job) = self.jobs.get_mut(usize::from(number).saturating_sub(1)) else {
+            return;
+        };
+        let awaits = match machine.job(number) {
+            Some(view) => Waits::of(&view).input,
+            None => false,
+        };
+        self.typing.is_awaited |= awaits;
         if take_output(machine, &mut job.terminal, &mut self.output) {
             self.recording.add(RunEvent::Take(job.terminal.line));
         }
-        if turn.waits.input {
+        if awaits {
             job.terminal.flush(&mut self.output);
         }
-        turn
     }
 
-    /// Reports the turn of a step, and lets a tick go by; false where no job can go on.
+    /// Reports the turn of a step, and lets a tick go by; false if no job can go on.
     pub fn end_round(&mut self, machine: &mut Machine, turn: Option<Turn>) -> bool {
         match turn {
             Some(turn) => self.report_turn(machine, turn),
@@ -181,11 +248,14 @@ impl Session {
         if self.picture.draw(alloc, machine, self.ticks).is_err() {
             self.errors.fail();
         }
-        machine.event(&ROUND[1]);
+        let Ok(facts) = machine.tick_facts(alloc) else {
+            self.errors.fail();
+            return false;
+        };
         self.recording.add(RunEvent::Tick);
         self.ticks = self.ticks.saturating_add(1);
-        if self.is_limited {
-            self.note_limits(machine);
+        if !facts.is_empty() {
+            self.report_limits(machine, facts.as_slice());
         }
         self.notes
             .report_overdue(machine, self.ticks, &mut self.errors);
@@ -197,46 +267,56 @@ impl Session {
         let tick = self.ticks;
         if let Some(job) = self.jobs.get(usize::from(turn.job).saturating_sub(1)) {
             let traced = &job.traced;
-            let may_differ = self
-                .notes
+            self.notes
                 .report_turn(machine, tick, traced, &mut self.errors);
-            self.notes.prepare(machine, traced, &mut self.errors);
-            if may_differ {
-                self.report_grants(machine);
-            }
+            self.notes.prepare(machine, traced);
         }
-        if turn.waits.locks {
-            report_circle(machine, tick, turn.job, &mut self.errors);
+        if turn.has_called {
+            self.report_call(machine);
         }
     }
 
-    /// The requests for locks may have changed: reports grants, and has the locks drawn anew.
-    fn report_grants(&mut self, machine: &Machine) {
+    /// Reports the facts of a call. Requests may be others since then.
+    fn report_call(&mut self, machine: &Machine) {
+        let tick = self.ticks;
+        for fact in self.facts.as_slice() {
+            self.notes
+                .report_fact(machine, tick, fact, &mut self.errors);
+        }
         self.picture.may_differ = true;
-        self.notes
-            .report_grants(machine, self.ticks, &mut self.errors);
-    }
-
-    /// A tick went by while jobs wait for locks with time limits: reports the jobs whose limit ended, which the
-    /// tick set back to the error return of their call, and takes down what they do next.
-    fn note_limits(&mut self, machine: &Machine) {
-        let (mut are_limited, mut has_ended) = (false, false);
-        for job in self.jobs.as_mut_slice().iter_mut() {
-            let Some(view) = machine.job(job.traced.number) else {
-                continue;
-            };
-            are_limited |= Waits::of(&view).limit;
-            if view.pc != job.traced.next {
-                has_ended = true;
-                job.traced.next = view.pc;
-                let (traced, errors) = (&job.traced, &mut self.errors);
-                self.notes.report_limit(self.ticks, traced, &view, errors);
-                self.notes.prepare(machine, traced, errors);
+        self.notes.report_waits(machine, tick, &mut self.errors);
+        for fact in self.facts.as_slice() {
+            if let Fact::CircleClosed(job) = fact {
+                report_circle(machine, tick, *job, &mut self.errors);
             }
         }
-        self.is_limited = are_limited;
-        if has_ended {
-            self.report_grants(machine);
+    }
+
+    /// Reports the facts of a tick. If a job's time limit ended, the tick set the job back to the error return of its
+    /// call: takes down what it does next.
+    fn report_limits(&mut self, machine: &Machine, facts: &[Fact]) {
+        let tick = self.ticks;
+        for fact in facts {
+            if let Fact::LimitEnded(number, _) = fact {
+                self.set_back(machine, *number);
+            }
+            self.notes
+                .report_fact(machine, tick, fact, &mut self.errors);
+        }
+        self.picture.may_differ = true;
+        self.notes.report_waits(machine, tick, &mut self.errors);
+    }
+
+    /// A job's time limit ended: reports that with its steps, and takes down what it does next.
+    fn set_back(&mut self, machine: &Machine, number: u8) {
+        let Some(job) = self.jobs.get_mut(usize::from(number).saturating_sub(1)) else {
+            return;
+        };
+        if let Some(view) = machine.job(number) {
+            job.traced.next = view.pc;
+            self.notes
+                .report_limit(self.ticks, &job.traced, &view, &mut self.errors);
+            self.notes.prepare(machine, &job.traced);
         }
     }
 

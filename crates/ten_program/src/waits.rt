@@ -10,8 +10,6 @@ use monitor::JobView;
 pub struct Waits {
     /// Characters.
     pub input: bool,
-    /// Locks.
-    pub locks: bool,
     /// Locks with a time limit. The limit goes down while the job is stopped, too.
     pub limit: bool,
     /// The end of its sleep.
@@ -22,7 +20,6 @@ impl Waits {
     /// No waits.
     pub const NONE: Waits = Waits {
         input: false,
-        locks: false,
         limit: false,
         sleep: false,
     };
@@ -33,10 +30,7 @@ impl Waits {
         let mut waits = Waits::NONE;
         match job.wait {
             Wait::Char | Wait::Line => waits.input = goes,
-            Wait::Queue(limit, _) => {
-                waits.locks = goes;
-                waits.limit = limit > 0;
-            }
+            Wait::Queue(limit, _) => waits.limit = limit > 0,
             Wait::Sleep(_) => waits.sleep = goes,
             Wait::None | Wait::Room(_) => {}
         }
@@ -50,7 +44,6 @@ impl Waits {
             if let Some(view) = machine.job(job.traced.number) {
                 let waits = Waits::of(&view);
                 all.input |= waits.input;
-                all.locks |= waits.locks;
                 all.limit |= waits.limit;
                 all.sleep |= waits.sleep;
             }

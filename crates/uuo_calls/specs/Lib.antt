@@ -10,3 +10,4 @@ pub mod Performed
 pub mod JobRows
 pub mod DataRows
 pub mod Laws
+pub mod Asked

@@ -1,6 +1,7 @@
 //! A monitor call, and how it ends.
 
 use ka_cpu::{Accumulator, CallKind};
+use lock_queue::LockReply;
 use word36::Address;
 
 /// A monitor call, as the processor hands it over.
@@ -23,4 +24,13 @@ pub enum CallOutcome {
     Empty,
     /// The job is gone.
     Gone,
+}
+
+/// How a call ends, and what it is answered.
+#[derive(Clone, Copy)]
+pub struct CallEnd {
+    /// How it ends.
+    pub outcome: CallOutcome,
+    /// The answer, if it is a lock call.
+    pub reply: Option<LockReply>,
 }

@@ -1,19 +1,20 @@
 //! The monitor calls, by their table.
 
-ghost use Rattle.std.specs.Prelude.{◌≡◌, ◌≢◌, ◌<◌, ◌^◌, [], List, Option, IsSome};
+ghost use Rattle.std.specs.Prelude.{◌≡◌, ◌≢◌, ◌<◌, ◌^◌, [], List, Option, IsSome, None, Some};
 ghost use Rattle.core_store.specs.Cores.{IsJob, core_of, given};
 ghost use Rattle.lock_queue.specs.Jobs.{released};
 ghost use Rattle.job_sched.specs.Changes.{table_without};
 ghost use Rattle.job_sched.specs.Tables.{job_at};
 ghost use Rattle.job_sched.specs.declared.job.Job.{Job as JobView};
 ghost use Rattle.word36.specs.Words.{right_half};
+ghost use Rattle.uuo_calls.specs.Asked.{reply_in, reply_to};
 ghost use Rattle.uuo_calls.specs.CallState.{CallState, ac_of};
 ghost use Rattle.uuo_calls.specs.Performed.{World, Performed, performed, row_of, around};
 ghost use Rattle.uuo_calls.specs.QuotaRows.{named_job, quota_at};
 ghost use Rattle.uuo_calls.specs.declared.call.CallOutcome.TheVariants.{Done};
 ghost use Rattle.uuo_calls.specs.declared.service.Service.TheVariants.{Enqc};
 
-use crate::call::{CallOutcome, MonitorCall};
+use crate::call::{CallEnd, CallOutcome, MonitorCall};
 use crate::core_call::resize_core;
 use crate::data_words::{datrd, datwr};
 use crate::input::{Reading, input, skpin};
@@ -28,7 +29,7 @@ use crate::service::{Service, service_of};
 use core_store::CoreStore;
 use job_sched::{Job, JobTable, Stop, TimeOfDay};
 use ka_cpu::{Accumulator, StopReason};
-use lock_queue::LockTable;
+use lock_queue::{LockReply, LockTable};
 use tty_lines::Lines;
 use word36::{Address, DATA_WORDS, Word};
 
@@ -46,6 +47,28 @@ struct JobCall {
     quota: Option<u16>,
 }
 
+/// The end of a call that is no lock call.
+fn ended(outcome: CallOutcome) -> CallEnd
+    ensures outcome { result.outcome ≡ outcome }
+    ensures reply { result.reply ≡ None }
+{
+    CallEnd {
+        outcome,
+        reply: None,
+    }
+}
+
+/// The end of a lock call with this answer.
+fn replied(reply: LockReply) -> CallEnd
+    ensures outcome { result.outcome ≡ Done }
+    ensures reply { result.reply ≡ Some reply }
+{
+    CallEnd {
+        outcome: CallOutcome::Done,
+        reply: Some(reply),
+    }
+}
+
 /// Does what the call's row of the table says.
 fn carry_out<L: LockTable, C: CoreStore>(
     call: JobCall,
@@ -55,7 +78,7 @@ fn carry_out<L: LockTable, C: CoreStore>(
     cores: &mut C,
     shared: &mut [Word; DATA_WORDS],
     room: &mut CallRoom,
-) -> CallOutcome
+) -> CallEnd
     requires number { IsJob call.number }
     requires core { core_of (C.meaning cores.old) call.number ≢ [] }
     ensures row { (jobs : List (Option JobView))
@@ -68,9 +91,21 @@ fn carry_out<L: LockTable, C: CoreStore>(
           requests = L.requests locks.new;
           cores = C.meaning cores.new;
           shared = shared.new;
-          ending = result;
+          ending = result.outcome;
         }
         ≡ row_of call.service call.time call.number call.ac call.e (record {
+          size = L.REQS;
+          job = job.old;
+          jobs = jobs;
+          lines = lines.old;
+          requests = L.requests locks.old;
+          cores = C.meaning cores.old;
+          shared = shared.old;
+          ending = Done;
+        }) }
+    ensures reply { (jobs : List (Option JobView))
+        → (call.service ≡ Enqc → quota_at jobs (named_job call.number (right_half (ac_of job.old call.ac))) ≡ call.quota)
+        → result.reply ≡ reply_in call.service call.number call.ac (record {
           size = L.REQS;
           job = job.old;
           jobs = jobs;
@@ -94,30 +129,30 @@ fn carry_out<L: LockTable, C: CoreStore>(
         Service::Core => resize_core(number, job, ac, cores),
         Service::Exit => exit(number, job, locks),
         Service::Monrt => job.stop = Some(Stop::Monitor),
-        Service::Logout => return CallOutcome::Gone,
+        Service::Logout => return ended(CallOutcome::Gone),
         Service::Mstime => mstime(time, job, ac),
         Service::Pjob => pjob(number, job, ac),
         Service::Sleep => sleep(job, ac),
         Service::Piini => piini(number, job, ac, cores),
         Service::Pisys => pisys(job, ac),
         Service::Debrk => debrk(number, job, cores),
-        Service::Enq => enq(number, job, ac, locks, cores, room),
-        Service::Deq => deq(number, job, ac, locks, cores, room),
-        Service::Enqc => enqc(number, quota, job, ac, locks, cores, room),
+        Service::Enq => return replied(enq(number, job, ac, locks, cores, room)),
+        Service::Deq => return replied(deq(number, job, ac, locks, cores, room)),
+        Service::Enqc => return replied(enqc(number, quota, job, ac, locks, cores, room)),
         Service::Datrd => datrd(job, ac, shared),
         Service::Datwr => datwr(job, ac, shared),
         Service::Input(awaited, skips) => {
             let reading = Reading { awaited, skips, e };
-            return input(number, reading, job, lines, cores);
+            return ended(input(number, reading, job, lines, cores));
         }
-        Service::Outchr => return outchr(number, job, e, lines, cores),
-        Service::Outstr => return outstr(number, job, e, lines, cores),
+        Service::Outchr => return ended(outchr(number, job, e, lines, cores)),
+        Service::Outstr => return ended(outstr(number, job, e, lines, cores)),
         Service::Clrbfi => lines.clear_input(job.line),
         Service::Clrbfo => lines.clear_output(job.line),
         Service::Skpin(awaited) => skpin(awaited, job, lines),
         Service::Unlisted => stop_at(job, StopReason::IllegalInstruction),
     }
-    CallOutcome::Done
+    ended(CallOutcome::Done)
 }
 
 /// Takes a job away, as LOGOUT does: its requests leave, and its core is free; where it was current, nothing
@@ -159,7 +194,7 @@ pub fn perform<L: LockTable, C: CoreStore>(
     shared: &mut [Word; DATA_WORDS],
     room: &mut CallRoom,
     time: TimeOfDay,
-) -> CallOutcome
+) -> CallEnd
     requires number { IsJob number }
     requires there { IsSome (job_at table.old.jobs number) }
     requires core { core_of (C.meaning cores.old) number ≢ [] }
@@ -172,7 +207,7 @@ pub fn perform<L: LockTable, C: CoreStore>(
         cores = C.meaning cores.new;
         shared = shared.new;
       };
-      outcome = result;
+      outcome = result.outcome;
     }
         ≡ performed (record {
           size = L.REQS;
@@ -182,11 +217,20 @@ pub fn perform<L: LockTable, C: CoreStore>(
           cores = C.meaning cores.old;
           shared = shared.old;
         }) time number call }
+    ensures reply { result.reply
+        ≡ reply_to (record {
+          size = L.REQS;
+          table = table.old;
+          lines = lines.old;
+          requests = L.requests locks.old;
+          cores = C.meaning cores.old;
+          shared = shared.old;
+        }) number call }
 {
     let MonitorCall { kind, ac, e } = call;
     let service = service_of(kind, ac, e);
     let quota = quota_asked(service, number, ac, &table.jobs);
-    let outcome = match &mut table.jobs[number as usize] {
+    let end = match &mut table.jobs[number as usize] {
         Some(job) => {
             let call = JobCall {
                 service,
@@ -196,14 +240,14 @@ pub fn perform<L: LockTable, C: CoreStore>(
                 e,
                 quota,
             };
-            let outcome = carry_out(call, job, lines, locks, cores, shared, room);
+            let end = carry_out(call, job, lines, locks, cores, shared, room);
             table.sleepers |= job.is_asleep();
-            outcome
+            end
         }
-        None => return CallOutcome::Gone,
+        None => return ended(CallOutcome::Gone),
     };
-    if matches!(outcome, CallOutcome::Gone) {
+    if matches!(end.outcome, CallOutcome::Gone) {
         remove_job(number, table, locks, cores);
     }
-    outcome
+    end
 }

@@ -1,6 +1,7 @@
 //! The monitor calls of a job, and the world that they change.
 #![tactic(auto)]
 
+mod asked;
 mod blocks;
 mod call;
 mod calls;
@@ -19,7 +20,8 @@ mod service;
 mod status;
 mod world;
 
-pub use call::{CallOutcome, MonitorCall};
+pub use asked::{Asked, BlockRoom, LockService};
+pub use call::{CallEnd, CallOutcome, MonitorCall};
 pub use calls::{perform, remove_job};
 pub use core_call::JBREL;
 pub use laws::{

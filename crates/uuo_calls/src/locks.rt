@@ -222,8 +222,12 @@ pub(crate) fn enq<L: LockTable, C: CoreStore>(
     locks: &mut L,
     cores: &mut C,
     room: &mut CallRoom,
-)
+) -> LockReply
     requires number { IsJob number }
+    ensures reply { result
+        ≡ (asked L.REQS (L.requests locks.old) number
+        (enq_asks job.old.regs.ac (core_of (C.meaning cores.old) number) number (ac_of job.old ac)
+        (is_some job.old.interrupts.vector) job.old.quota)).reply }
     ensures job { job.new
         ≡ answered job.old ac (enq_limit job.old.regs.ac (core_of (C.meaning cores.old) number) number (ac_of job.old ac))
         (asked L.REQS (L.requests locks.old) number
@@ -248,6 +252,7 @@ pub(crate) fn enq<L: LockTable, C: CoreStore>(
     };
     let answer = enqueue(enq, &job.regs, &mut window, locks, room);
     go_on_with(job, ac, answer);
+    answer.reply
 }
 
 /// Gives up all that a job wants or owns, as DEQ. 1 does.
@@ -313,8 +318,11 @@ pub(crate) fn deq<L: LockTable, C: CoreStore>(
     locks: &mut L,
     cores: &mut C,
     room: &mut CallRoom,
-)
+) -> LockReply
     requires number { IsJob number }
+    ensures reply { result
+        ≡ (asked L.REQS (L.requests locks.old) number
+        (deq_asks job.old.regs.ac (core_of (C.meaning cores.old) number) number (ac_of job.old ac))).reply }
     ensures job { job.new
         ≡ answered job.old ac 0
         (asked L.REQS (L.requests locks.old) number
@@ -329,4 +337,5 @@ pub(crate) fn deq<L: LockTable, C: CoreStore>(
     let mut window = CoreWords { words };
     let reply = dequeue(&job.regs, &mut window, number, word, locks, room);
     go_on_with(job, ac, at_once(reply));
+    reply
 }

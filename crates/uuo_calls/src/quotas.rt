@@ -1,24 +1,25 @@
 //! ENQC., and its functions 1 and 2, for the quota of a job: how many requests it may have.
 
-ghost use Rattle.std.specs.Prelude.{◌≡◌, ◌≤◌, List, Option, Some};
-ghost use Rattle.core_store.specs.Cores.{IsJob};
+ghost use Rattle.std.specs.Prelude.{◌≡◌, ◌≤◌, List, Option, Some, is_some, nat_le};
+ghost use Rattle.core_store.specs.Cores.{IsJob, core_of};
 ghost use Rattle.job_sched.specs.Tables.{job_at};
 ghost use Rattle.job_sched.specs.declared.job.Job.{Job as JobView};
 ghost use Rattle.uuo_calls.specs.declared.service.Service.TheVariants.{Enqc};
 ghost use Rattle.word36.specs.Words.{right_half};
 ghost use Rattle.word36.specs.declared.sizes.TheConstants.{MOST_REQUESTS};
+ghost use Rattle.uuo_calls.specs.Asked.{done_if, enqc_reply};
 ghost use Rattle.uuo_calls.specs.CallState.{ac_of};
 ghost use Rattle.uuo_calls.specs.QuotaRows.{count, named_job, quota_at, quota_lowered, told_quota};
 ghost use Rattle.uuo_calls.specs.StatusRow.{enqc};
 
-use crate::returns::{refuse, skip};
+use crate::returns::{refused, skip};
 use crate::room::CallRoom;
 use crate::service::Service;
 use crate::status::tell_status;
 use core_store::CoreStore;
 use job_sched::Job;
 use ka_cpu::Accumulator;
-use lock_queue::{LockTable, Refusal};
+use lock_queue::{LockReply, LockTable, Refusal};
 use word36::Word;
 
 /// The number of the job that a job names: 0 names the job itself.
@@ -82,29 +83,33 @@ fn tell_quota<L: LockTable>(
     job: &mut Job,
     ac: Accumulator,
     locks: &L,
-)
-    ensures { job.new ≡ told_quota (L.requests locks.now) number ac job.old quota }
+) -> LockReply
+    ensures job { job.new ≡ told_quota (L.requests locks.now) number ac job.old quota }
+    ensures reply { result ≡ done_if (is_some quota) }
 {
     match quota {
         Some(quota) => {
             let count = count_requests(number, locks);
             job.regs.ac[ac.index()] = Word::join(u32::from(quota), count);
             skip(job);
+            LockReply::Done
         }
-        None => refuse(job, ac, Refusal::NoSuchQuota.code()),
+        None => refused(job, ac, Refusal::NoSuchQuota),
     }
 }
 
 /// ENQC. 2: lowers the job's quota to the right half of AC. The call is refused where that is above the quota.
-fn lower_quota(job: &mut Job, ac: Accumulator)
-    ensures { job.new ≡ quota_lowered ac job.old }
+fn lower_quota(job: &mut Job, ac: Accumulator) -> LockReply
+    ensures job { job.new ≡ quota_lowered ac job.old }
+    ensures reply { result ≡ done_if (nat_le (right_half (ac_of job.old ac)) job.old.quota) }
 {
     let quota = job.regs.ac[ac.index()].right();
     if quota <= u32::from(job.quota) {
         job.quota = quota as u16;
         skip(job);
+        LockReply::Done
     } else {
-        refuse(job, ac, Refusal::NoSuchQuota.code());
+        refused(job, ac, Refusal::NoSuchQuota)
     }
 }
 
@@ -125,9 +130,11 @@ pub(crate) fn enqc<L: LockTable, C: CoreStore>(
     locks: &L,
     cores: &mut C,
     room: &mut CallRoom,
-)
+) -> LockReply
     requires number { IsJob number }
-    ensures { (jobs : List (Option JobView)) → quota_at jobs (named_job number (right_half (ac_of job.old ac))) ≡ quota
+    ensures reply { (jobs : List (Option JobView)) → quota_at jobs (named_job number (right_half (ac_of job.old ac))) ≡ quota
+        → result ≡ enqc_reply jobs number ac job.old (core_of (C.meaning cores.old) number) }
+    ensures row { (jobs : List (Option JobView)) → quota_at jobs (named_job number (right_half (ac_of job.old ac))) ≡ quota
         → record { job = job.new; cores = C.meaning cores.new } ≡ enqc jobs (L.requests locks.now) number ac job.old (C.meaning cores.old) }
 {
     let word = job.regs.ac[ac.index()];

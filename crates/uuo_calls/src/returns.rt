@@ -1,10 +1,13 @@
 //! The ways in which a call returns to its program.
 
 ghost use Rattle.std.specs.Prelude.{◌≡◌, ◌<◌, ◌^◌};
+ghost use Rattle.lock_queue.specs.Refusals.{code_of};
+ghost use Rattle.lock_queue.specs.declared.call.LockReply.TheVariants.{Refused};
 ghost use Rattle.uuo_calls.specs.CallState.{put_back, refusing, skipping, stopped_at, waiting};
 
 use job_sched::{Job, Stop, Wait};
 use ka_cpu::{Accumulator, StopReason};
+use lock_queue::{LockReply, Refusal};
 use word36::Word;
 
 /// What is added to an address, modulo 2^18, to go one back.
@@ -22,6 +25,15 @@ pub(crate) fn refuse(job: &mut Job, ac: Accumulator, code: u8)
     ensures { job.new ≡ refusing job.old ac code }
 {
     job.regs.ac[ac.index()] = Word::new(code as u64);
+}
+
+/// Refuses a lock call, and gives that as its answer.
+pub(crate) fn refused(job: &mut Job, ac: Accumulator, refusal: Refusal) -> LockReply
+    ensures job { job.new ≡ refusing job.old ac (code_of refusal) }
+    ensures reply { result ≡ Refused refusal }
+{
+    refuse(job, ac, refusal.code());
+    LockReply::Refused(refusal)
 }
 
 /// Lets the job wait, and make the call again when the wait is over.

@@ -5,17 +5,18 @@ ghost use Rattle.core_store.specs.Cores.{IsJob, core_of, with_core};
 ghost use Rattle.arrayvec.specs.ArrayVec.{array_vec_len};
 ghost use Rattle.word36.specs.declared.sizes.TheConstants.{LOCKS_A_CALL};
 ghost use Rattle.word36.specs.Words.{right_half};
+ghost use Rattle.uuo_calls.specs.Asked.{status_reply};
 ghost use Rattle.uuo_calls.specs.CallState.{ac_of};
 ghost use Rattle.call_block.specs.Blocks.{wants_read_as};
-ghost use Rattle.uuo_calls.specs.StatusRow.{Memory, stored, status_words, enqc_asks, with_room, stored_or_refused, status_told};
+ghost use Rattle.uuo_calls.specs.StatusRow.{answers_at, Memory, stored, status_words, enqc_asks, with_room, stored_or_refused, status_told};
 
 use crate::blocks::block_kept;
-use crate::returns::{refuse, skip};
+use crate::returns::{refused, skip};
 use crate::room::CallRoom;
 use core_store::CoreStore;
 use job_sched::Job;
 use ka_cpu::{Accumulator, CoreWords, JobMemory, Regs, are_legal_kept, store};
-use lock_queue::{BlockUse, LockTable, Refusal, Want, Wants};
+use lock_queue::{BlockUse, LockReply, LockTable, Refusal, Want, Wants};
 use word36::{Address, Word};
 
 /// How many words the status of one lock has.
@@ -95,9 +96,10 @@ fn store_or_refuse<L: LockTable, M: JobMemory>(
     asks: Result<(), Refusal>,
     wants: &Wants,
     locks: &L,
-)
+) -> LockReply
     requires to { to < 2 ^ 18 }
     requires few { OnOk asks (array_vec_len wants.now ≤ LOCKS_A_CALL) }
+    ensures reply { result ≡ status_reply (wants_read_as asks wants.now) }
     ensures stored_or_refused { record { job = job.new; core = M.words memory.new }
         ≡ stored_or_refused (L.requests locks.now) number ac to job.old (M.words memory.old) (wants_read_as asks wants.now) }
     ensures place { M.place memory.new ≡ M.place memory.old }
@@ -106,8 +108,9 @@ fn store_or_refuse<L: LockTable, M: JobMemory>(
         Ok(()) => {
             store_status(number, &mut job.regs, memory, to, wants.as_slice(), locks);
             skip(job);
+            LockReply::Done
         }
-        Err(refusal) => refuse(job, ac, refusal.code()),
+        Err(refusal) => refused(job, ac, refusal),
     }
 }
 
@@ -120,8 +123,11 @@ pub(crate) fn tell_status<L: LockTable, C: CoreStore>(
     locks: &L,
     cores: &mut C,
     room: &mut CallRoom,
-)
+) -> LockReply
     requires number { IsJob number }
+    ensures reply { result
+        ≡ status_reply (with_room (core_of (C.meaning cores.old) number) (answers_at job.old ac)
+        (enqc_asks job.old.regs.ac (core_of (C.meaning cores.old) number) number (ac_of job.old ac))) }
     ensures job { job.new ≡ (status_told (L.requests locks.now) number ac job.old (core_of (C.meaning cores.old) number)).job }
     ensures cores { C.meaning cores.new
         ≡ with_core (C.meaning cores.old) number
@@ -133,5 +139,5 @@ pub(crate) fn tell_status<L: LockTable, C: CoreStore>(
     let mut window = CoreWords { words };
     let wants = &mut room.enquiring;
     let asks = enqc_asks(&job.regs, &mut window, number, word, to, wants);
-    store_or_refuse(number, job, ac, &mut window, to, asks, wants, locks);
+    store_or_refuse(number, job, ac, &mut window, to, asks, wants, locks)
 }

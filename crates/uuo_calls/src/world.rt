@@ -2,9 +2,11 @@
 ghost use Rattle.std.specs.Prelude.{◌≡◌, ◌≢◌, [], IsSome};
 ghost use Rattle.core_store.specs.Cores.{IsJob, core_of};
 ghost use Rattle.job_sched.specs.Tables.{job_at};
+ghost use Rattle.uuo_calls.specs.Asked.{asked_of, block_of, reply_to};
 ghost use Rattle.uuo_calls.specs.Performed.{Performed, performed, without_job};
 
-use crate::call::{CallOutcome, MonitorCall};
+use crate::asked::{Asked, BlockRoom, asked_in};
+use crate::call::{CallEnd, MonitorCall};
 use crate::calls::{perform, remove_job};
 use crate::room::CallRoom;
 use core_store::CoreStore;
@@ -48,13 +50,25 @@ impl<L: LockTable, C: CoreStore> Model for World<L, C> {
 }
 
 impl<L: LockTable, C: CoreStore> World<L, C> {
+    /// What a job asks of the lock queue by a call that it is about to make, if it is a lock call. The block that
+    /// it reads, or the block's first refusal, is left in `room`.
+    pub fn asked(&mut self, number: u8, call: MonitorCall, room: &mut BlockRoom) -> Option<Asked>
+        requires { IsJob number }
+        ensures asked { result ≡ asked_of self.old number call }
+        ensures block { room.new ≡ block_of self.old number call }
+        ensures same { self.new ≡ self.old }
+    {
+        asked_in(number, call, &self.table, &mut self.cores, room)
+    }
+
     /// Performs a monitor call of a job, as the function `perform` does.
     #[inline(always)]
-    pub fn perform(&mut self, number: u8, call: MonitorCall, time: TimeOfDay) -> CallOutcome
+    pub fn perform(&mut self, number: u8, call: MonitorCall, time: TimeOfDay) -> CallEnd
         requires number { IsJob number }
         requires there { IsSome (job_at self.old.table.jobs number) }
         requires core { core_of self.old.cores number ≢ [] }
-        ensures performed { record { world = self.new; outcome = result } ≡ performed self.old time number call }
+        ensures performed { record { world = self.new; outcome = result.outcome } ≡ performed self.old time number call }
+        ensures reply { result.reply ≡ reply_to self.old number call }
     {
         perform(
             number,
