@@ -6,7 +6,8 @@ use Rattle.std.proofs.lemmas.Grind.{common_steps}
 use Rattle.std.proofs.lemmas.List.{take_rest, take-append-drop}
 use Rattle.std.specs.List.{flat_map}
 use Rattle.lock_queue.proofs.Lists.{flat_map-append}
-use Rattle.op_script.specs.Texts.{first_spelled, spelled_behind, characters_of, printed_character}
+use Rattle.op_script.specs.Texts.{first_spelled, spelled_behind, characters_of}
+use Rattle.script_io.specs.Printing.{printed_character}
 use Rattle.op_script.specs.declared.texts.Spelled.{Spelled}
 
 -- what was read before is passed over

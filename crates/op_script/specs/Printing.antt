@@ -11,7 +11,7 @@ use Rattle.machine.specs.declared.event.Answer.{Answer}
 use Rattle.machine.specs.declared.event.Answer.TheVariants.{Ran, Idle, Done, Text, JobNumber, Refused}
 use Rattle.machine.specs.declared.event.RefusedEvent.{RefusedEvent}
 use Rattle.machine.specs.declared.view.JobView.{JobView}
-use Rattle.op_script.specs.Texts.{printed}
+use Rattle.script_io.specs.Printing.{printed}
 
 -- ---- answers
 

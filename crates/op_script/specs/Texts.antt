@@ -1,13 +1,9 @@
--- Texts that are typed and taken: escapes stand for characters that a line of a script cannot have (this project's
+-- Texts that are typed, as they are read: escapes stand for characters that a line of a script cannot have (this project's
 -- profile).
 use Rattle.std.specs.Prelude.{ℕ, zero, suc, ◌+◌, ◌-◌, ◌*◌, ◌==◌, ◌&&◌}
-use Rattle.std.specs.Prelude.{◌||◌, Bool, nat_le, nat_lt, List, [], ◌∷◌}
+use Rattle.std.specs.Prelude.{Bool, nat_le, nat_lt, List, [], ◌∷◌}
 use Rattle.std.specs.Prelude.{Option, Some, None, if◌then◌else◌, option_map, option_and_then}
-use Rattle.std.specs.List.{flat_map}
-use Rattle.script_io.specs.Printing.{escaped}
 use Rattle.op_script.specs.declared.texts.Spelled.{Spelled}
-
--- ---- reading
 
 abbrev pub spells : ℕ → ℕ → Option Spelled
 spells character length = Some (record { character = character; length = length })
@@ -50,17 +46,3 @@ spelled_behind zero (c ∷ more) =
 -- the characters that a text spells
 abbrev pub characters_of : List ℕ → Option (List ℕ)
 characters_of text = spelled_behind 0 text
-
--- ---- printing
-
--- the escapes of LF, CR, ESC and the backslash; other control characters in octal; all else as it is
-abbrev pub printed_character : ℕ → List ℕ
-printed_character c =
-    if c == 10 then 92 ∷ 110 ∷ []
-    else (if c == 13 then 92 ∷ 114 ∷ []
-    else (if c == 27 then 92 ∷ 101 ∷ []
-    else (if c == 92 then 92 ∷ 92 ∷ []
-    else (if nat_lt c 32 || c == 127 then escaped c else c ∷ []))))
-
-abbrev pub printed : List ℕ → List ℕ
-printed text = flat_map printed_character text

@@ -1,7 +1,8 @@
 //! Texts that are typed at a line, and those that are taken from it.
 ghost use Rattle.std.specs.Prelude.{◌≡◌, ◌≤◌, ◌<◌, ◌+◌, ◌++◌, ◌∷◌, [], length, IfSome, IsTrue, OnOk};
 ghost use Rattle.std.specs.List.{flat_map};
-ghost use Rattle.op_script.specs.Texts.{is_octal, escape, octal_escape, first_spelled, characters_of, printed_character};
+ghost use Rattle.op_script.specs.Texts.{is_octal, escape, octal_escape, first_spelled, characters_of};
+ghost use Rattle.script_io.specs.Printing.{printed_character};
 
 use arrayvec::ArrayVec;
 use script_io::{LINE_LENGTH, push_escaped};

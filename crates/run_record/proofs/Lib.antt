@@ -1,3 +1,1 @@
 mod Events
-mod Numbers
-mod ReadBack

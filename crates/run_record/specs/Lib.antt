@@ -1,4 +1,3 @@
 pub mod Pieces
 pub mod Quotes
-pub mod ReadBack
 pub mod Scripts

@@ -1,7 +1,7 @@
 -- A run as lines of a script of `lockmon run` (this project's profile).
 use Rattle.std.specs.Prelude.{ℕ, ◌==◌, Bool, List, [], ◌∷◌, ◌++◌, codes, decimal, if◌then◌else◌}
 use Rattle.std.specs.List.{flat_map}
-use Rattle.op_script.specs.Texts.{printed}
+use Rattle.script_io.specs.Printing.{printed}
 use Rattle.run_record.specs.declared.pieces.Piece.{Piece}
 use Rattle.run_record.specs.declared.pieces.Piece.TheVariants as piece
 

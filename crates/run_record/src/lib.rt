@@ -2,14 +2,12 @@
 #![tactic(auto)]
 
 mod happened;
-mod laws;
 mod pieces;
 mod quoting;
 mod scripts;
 mod sequence;
 
 pub use happened::RunEvent;
-pub use laws::lines_are_read_back;
 pub use pieces::{MOST_ROUNDS, MOST_TYPED, Piece};
 pub use quoting::{Unquotable, UnquotableLine, unquotable_line};
 pub use scripts::{push_end, push_head, push_pieces, push_program};

@@ -1,7 +1,7 @@
 //! A run as a script.
 ghost use Rattle.std.specs.Prelude.{◌≡◌, ◌<◌, ◌++◌, codes, OnOk};
 ghost use Rattle.std.specs.List.{flat_map};
-ghost use Rattle.op_script.specs.Texts.{printed, printed_character};
+ghost use Rattle.script_io.specs.Printing.{printed, printed_character};
 ghost use Rattle.run_record.specs.Scripts.{ended, counted, program_name, run_lines, step_lines, text_of, text_in};
 
 use crate::pieces::Piece;

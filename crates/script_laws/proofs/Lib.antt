@@ -1,3 +1,5 @@
 pub mod Along
 mod TextLemmas
 mod TakingLemmas
+mod ReadBack
+mod WordsBack

@@ -3,13 +3,15 @@ ghost use Rattle.std.specs.Prelude.{◌≡◌, ◌^◌, ◌-◌, ◌<◌, ℕ, L
 ghost use Rattle.program_shell.specs.declared.statuses.TheConstants.{DONE, FAILED, REFUSED, USAGE};
 ghost use Rattle.mac_layout.specs.declared.addresses.TheConstants.{FIRST, MEMORY_SIZE};
 ghost use Rattle.mac_text.specs.declared.symbol.TheConstants.{NAME_CHARACTERS};
-ghost use Rattle.op_script.specs.Texts.{characters_of, printed};
+ghost use Rattle.op_script.specs.Texts.{characters_of};
 ghost use Rattle.op_script.specs.declared.commands.TheConstants.{MOST_ADDRESS, MOST_EVENTS};
 ghost use Rattle.op_script.specs.declared.names.TheConstants.{NAME_LENGTH};
 ghost use Rattle.queue_script.specs.declared.call_room.TheConstants.{QUOTA};
 ghost use Rattle.queue_script.specs.declared.locks.TheConstants.{CODE_DIGITS, MOST_CODE};
 ghost use Rattle.queue_script.specs.declared.options.TheConstants.{MOST_HALF, MOST_LEVEL};
+ghost use Rattle.script_io.specs.Printing.{printed};
 ghost use Rattle.script_io.specs.declared.line_sessions.TheConstants.{LINE_LENGTH};
+ghost use Rattle.script_laws.specs.ReadBack.{ReadsBack};
 ghost use Rattle.script_laws.specs.Taking.{TakeTakesAll};
 
 /// The lines of a script: their length, the most steps and ticks, the greatest address, and the name of
@@ -24,6 +26,12 @@ pub fn numbers_of_lines()
 /// Each text of 7-bit characters, printed as TAKE prints it, is read by TYPE as the same text.
 pub fn printed_texts_are_read()
     ensures { (text : List ℕ) → All (λ c. c < 128) text → characters_of (printed text) ≡ Some text }
+{}
+
+/// `lockmon run` reads the lines of a piece of a recorded run, of steps, ticks, takes or changes of jobs, as the commands of
+/// that piece.
+pub fn lines_are_read_back()
+    ensures { ReadsBack }
 {}
 
 /// TAKE writes all output of a line, and leaves none of it: `MOST_TAKES` events of 64 characters are enough.

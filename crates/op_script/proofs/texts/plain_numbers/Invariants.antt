@@ -1,6 +1,6 @@
 use Rattle.std.proofs.Common.{◌≡◌, length, take, true}
 use Rattle.std.specs.List.{flat_map}
-use Rattle.op_script.specs.Texts.{printed_character}
+use Rattle.script_io.specs.Printing.{printed_character}
 use Rattle.op_script.proofs.texts.plain_numbers.Given as goal
 
 abbrev pub invariant-loop-i : goal.invariant-loop-i

@@ -1,6 +1,6 @@
 use Rattle.std.proofs.Common.{rules, ◌≡◌, ◌∙◌, ap, ◌++◌, take, drop}
 use Rattle.std.specs.List.{flat_map}
-use Rattle.op_script.specs.Texts.{printed_character}
+use Rattle.script_io.specs.Printing.{printed_character}
 use Rattle.op_script.proofs.TextLemmas.{written-before}
 use Rattle.op_script.proofs.texts.push_text.Goals as goal
 

@@ -10,10 +10,10 @@ use Rattle.op_script.specs.Commands.{command_of, command_of_items}
 use Rattle.op_script.specs.declared.commands.Command.{Command}
 use Rattle.op_script.specs.declared.commands.Command.TheVariants as command
 use Rattle.run_record.specs.Scripts.{lines_of, counted, run_lines, step_lines}
-use Rattle.run_record.specs.ReadBack.{commands_of, run_commands, step_commands, IsPlain, ReadsBack}
+use Rattle.script_laws.specs.ReadBack.{commands_of, run_commands, step_commands, IsPlain, ReadsBack}
 use Rattle.run_record.specs.declared.pieces.Piece.{Piece}
 use Rattle.run_record.specs.declared.pieces.Piece.TheVariants as piece
-use Rattle.run_record.proofs.Numbers.{number_back, one_back, decimal_word, one_word, two_words}
+use Rattle.script_laws.proofs.WordsBack.{number_back, one_back, decimal_word, one_word, two_words}
 
 loud : (c : ℕ) (more : List ℕ) → (c == 59) ≡ false → is_silent (c ∷ more) ≡ false
 loud c more h = rw (ne_eqb (length (c ∷ more)) 0 (λ e. omega (arith, e)), h) refl
