@@ -1,5 +1,7 @@
 pub mod Programs
 pub mod Orders
+pub mod NormalOrders
+pub mod Placing
 pub mod Packing
 pub mod Keys
 pub mod Origins

@@ -59,11 +59,21 @@ fn push_counts(key: &mut Vec<u32>, counts: &[u16]) -> Result<(), AllocError>
     Ok(())
 }
 
+/// How many numbers that is, so that a key takes no more room than it needs.
+fn count_numbers(state: &KeptState) -> usize {
+    let mut count = state.made.len();
+    for r in &state.requests {
+        let of_wants = r.wants.len().saturating_mul(4);
+        count = count.saturating_add(of_wants).saturating_add(3);
+    }
+    count
+}
+
 /// All of a kept state in a list of numbers.
 pub fn numbers_of(alloc: Global, state: &KeptState) -> Result<Vec<u32>, AllocError>
     ensures { IfOk result (λ key. key.items ≡ numbers_of state.now) }
 {
-    let mut key = Vec::new(alloc);
+    let mut key = Vec::with_capacity(alloc, count_numbers(state))?;
     push_counts(&mut key, state.made.as_slice())?;
     push_requests(&mut key, state.requests.as_slice())?;
     Ok(key)

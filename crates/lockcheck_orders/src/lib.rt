@@ -7,6 +7,7 @@ mod desk;
 mod kept;
 mod keys;
 mod lines;
+mod normal;
 mod orders;
 mod packing;
 mod programs;

@@ -6,7 +6,8 @@ ghost use Rattle.word36.specs.declared.sizes.TheConstants.{MOST_REQUESTS};
 ghost use Rattle.lock_queue.specs.WellFormed.{are_well_formed};
 ghost use Rattle.lockcheck_orders.specs.declared.lines.TheConstants.{MOST_LINES};
 ghost use Rattle.lockcheck_orders.specs.Keys.{IsKeyOf};
-ghost use Rattle.lockcheck_orders.specs.Orders.{first_state, left_by, next, next_line, reply_to};
+ghost use Rattle.lockcheck_orders.specs.Orders.{first_state, left_by, next_line, reply_to};
+ghost use Rattle.lockcheck_orders.specs.NormalOrders.{next_normal};
 ghost use Rattle.lockcheck_orders.specs.Origins.{IsKept};
 ghost use Rattle.lockcheck_orders.specs.Packing.{came_from_some, packed_request, unpacked};
 ghost use Rattle.lockcheck_orders.specs.Programs.{are_right_lines, jobs_of};
@@ -115,7 +116,7 @@ impl Moves for Programs {
 
     ghost count = { λ p. length (jobs_of p) };
 
-    ghost next = { next };
+    ghost next = { next_normal };
 
     ghost shown = { unpacked };
 

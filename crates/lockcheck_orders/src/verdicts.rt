@@ -5,7 +5,8 @@ ghost use Rattle.std.specs.List.{All};
 ghost use Rattle.std.specs.Ordering.{nat_cmp};
 ghost use Rattle.state_search.specs.Searched.{IsWhole, seen_of};
 ghost use Rattle.lockcheck_orders.specs.Circles.{circle_jobs, has_circle};
-ghost use Rattle.lockcheck_orders.specs.Orders.{first_state, next};
+ghost use Rattle.lockcheck_orders.specs.Orders.{first_state};
+ghost use Rattle.lockcheck_orders.specs.NormalOrders.{next_normal};
 ghost use Rattle.lockcheck_orders.specs.Origins.{IsKept};
 ghost use Rattle.lockcheck_orders.specs.Packing.{unpacked};
 ghost use Rattle.lockcheck_orders.specs.Programs.{jobs_of};
@@ -38,7 +39,7 @@ pub fn find_circle(
     programs: &Programs,
     kept: &Kept<KeptState>,
 ) -> Result<Option<Verdict>, AllocError>
-    requires whole { IsWhole (length (jobs_of programs.now)) (next programs.now) (first_state programs.now)
+    requires whole { IsWhole (length (jobs_of programs.now)) (next_normal programs.now) (first_state programs.now)
         (seen_of (unpacked programs.now) (first_state programs.now) kept.now.met.items) (length kept.now.met.items) }
     requires sound { All (λ m. IsKept programs.now m.state) kept.now.met.items }
     ensures { IfOk result (IsVerdict programs.now (has_circle programs.now) (circle_jobs programs.now)) }
@@ -64,7 +65,7 @@ pub fn find_stuck(
     programs: &Programs,
     kept: &Kept<KeptState>,
 ) -> Result<Option<Verdict>, AllocError>
-    requires whole { IsWhole (length (jobs_of programs.now)) (next programs.now) (first_state programs.now)
+    requires whole { IsWhole (length (jobs_of programs.now)) (next_normal programs.now) (first_state programs.now)
         (seen_of (unpacked programs.now) (first_state programs.now) kept.now.met.items) (length kept.now.met.items) }
     requires sound { All (λ m. IsKept programs.now m.state) kept.now.met.items }
     ensures { IfOk result (IsVerdict programs.now (is_stuck programs.now) (waiting_jobs programs.now)) }
@@ -90,12 +91,13 @@ pub fn all_answers(
     programs: &Programs,
     kept: &Kept<KeptState>,
 ) -> Result<BTreeSet<usize>, AllocError>
-    requires whole { IsWhole (length (jobs_of programs.now)) (next programs.now) (first_state programs.now)
+    requires whole { IsWhole (length (jobs_of programs.now)) (next_normal programs.now) (first_state programs.now)
         (seen_of (unpacked programs.now) (first_state programs.now) kept.now.met.items) (length kept.now.met.items) }
     requires sound { All (λ m. IsKept programs.now m.state) kept.now.met.items }
     ensures { IfOk result (λ all. (a : ℕ) → (IsTrue (bag.contains nat_cmp all a) ↔ IsGiven programs.now a)) }
 {
-    all_labels(alloc, programs, kept, &Answers)
+    let all = all_labels(alloc, programs, kept, &Answers)?;
+    Ok(all)
 }
 
 /// The answers, where they are asked for.
@@ -105,7 +107,7 @@ fn answers_if(
     kept: &Kept<KeptState>,
     wanted: bool,
 ) -> Result<Option<BTreeSet<usize>>, AllocError>
-    requires whole { IsWhole (length (jobs_of programs.now)) (next programs.now) (first_state programs.now)
+    requires whole { IsWhole (length (jobs_of programs.now)) (next_normal programs.now) (first_state programs.now)
         (seen_of (unpacked programs.now) (first_state programs.now) kept.now.met.items) (length kept.now.met.items) }
     requires sound { All (λ m. IsKept programs.now m.state) kept.now.met.items }
     ensures { IfOk result (AreAnswers programs.now wanted) }
@@ -120,7 +122,7 @@ fn answers_if(
 /// What is found where every state was looked at.
 #[derive(Drop)]
 pub struct Report {
-    /// How many states there are.
+    /// How many normal forms the states have.
     pub states: usize,
     /// A shortest order that leads to a circle of waits.
     pub circle: Option<Verdict>,
@@ -147,7 +149,7 @@ fn report_on(
     kept: &Kept<KeptState>,
     with_answers: bool,
 ) -> Result<Report, AllocError>
-    requires whole { IsWhole (length (jobs_of programs.now)) (next programs.now) (first_state programs.now)
+    requires whole { IsWhole (length (jobs_of programs.now)) (next_normal programs.now) (first_state programs.now)
         (seen_of (unpacked programs.now) (first_state programs.now) kept.now.met.items) (length kept.now.met.items) }
     requires sound { All (λ m. IsKept programs.now m.state) kept.now.met.items }
     ensures report { IfOk result (IsReport programs.now with_answers) }
