@@ -83,26 +83,20 @@ fn source_text(alloc: Global, lines: &Lines, fault: SourceFault) -> Result<Vec<u
     let Some(number) = fault.before.checked_add(fault.line as u128) else {
         return Err(AllocError);
     };
-    let reason = source_reason(alloc, lines, number, fault.code)?;
+    let reason = source_reason(alloc, lines, fault)?;
     let mut text = Vec::new(alloc);
     push_place_of_source(&mut text, fault, number)?;
     push_reason(&mut text, reason.as_str().as_bytes())?;
     Ok(text)
 }
 
-/// What is wrong with a line of a source that has a fault of this code. A name that no line of the input defines is
-/// reported as one that is not defined.
-fn source_reason(
-    alloc: Global,
-    lines: &Lines,
-    number: u128,
-    code: u8,
-) -> Result<String, AllocError> {
+/// What is wrong with a line of a source.
+fn source_reason(alloc: Global, lines: &Lines, fault: SourceFault) -> Result<String, AllocError> {
     if lines.is_lost() {
         return Err(AllocError);
     }
-    let line = lines.line(number).unwrap_or(b"");
-    source_faults::explain_in(alloc, code, line, lines.as_bytes())
+    let before = fault.before.saturating_sub(u128::from(lines.dropped()));
+    source_faults::explain(alloc, fault.code, before, fault.line, lines.as_bytes())
 }
 
 /// Adds the number of the line.

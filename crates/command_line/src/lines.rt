@@ -82,6 +82,11 @@ impl Lines {
         self.bytes.as_slice()
     }
 
+    /// How many lines were dropped before these.
+    pub fn dropped(&self) -> u64 {
+        self.dropped
+    }
+
     /// Whether lines are missing for want of memory.
     pub fn is_lost(&self) -> bool {
         self.is_lost

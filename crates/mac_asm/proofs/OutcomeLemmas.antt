@@ -44,7 +44,7 @@ out_of_grammar source number is = ap outcome_read is
 
 pub not_read : (e : ParseError) (source : List ℕ) → Unread e (program_of source) → Assembles (Err (refusal_of e)) (outcome_of source)
 not_read parse_errors.Memory source is = tt
-not_read (parse_errors.Syntax number) source is = out_of_grammar source number is
+not_read (parse_errors.Syntax fault) source is = out_of_grammar source fault.line is
 
 -- END is missing
 pub without_end : (source : List ℕ) (lines : List Line) → program_of source ≡ Ok lines → has_end lines ≡ false

@@ -15,4 +15,4 @@ error_text errors.Memory = codes "there is no memory"
 -- the error of a source that could not be read
 abbrev pub refusal_of : ParseError → AsmError
 refusal_of parse_errors.Memory = errors.Memory
-refusal_of (parse_errors.Syntax line) = errors.Line line Syntax
+refusal_of (parse_errors.Syntax fault) = errors.Line fault.line Syntax

@@ -92,8 +92,8 @@ impl From<ParseError> for AsmError {
     fn from(e: ParseError) -> AsmError {
         match e {
             ParseError::Memory => AsmError::Memory,
-            ParseError::Syntax(line) => AsmError::Line {
-                line,
+            ParseError::Syntax(fault) => AsmError::Line {
+                line: fault.line,
                 code: AsmCode::Syntax,
             },
         }

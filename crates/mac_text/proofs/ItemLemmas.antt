@@ -47,7 +47,7 @@ pub items_fail : {X : Type 0} (next : Scan → Option (Option X × Scan)) (e : F
     → Fails e (next s) → with_front front (items_at next (n - i) s) ≡ total → Fails e total
 unfolding items_at
 items_fail next faults.Memory front n i s total lt h so_far = tt
-items_fail next faults.Syntax front n i s total lt h so_far =
+items_fail next (faults.Syntax wanted) front n i s total lt h so_far =
     let k : n - i ≡ suc (n - (i + 1)) = omega arith in
     let one : with_front front (items_at next (n - i) s) ≡ None = rw (k, h) refl in
     sym so_far ∙ one

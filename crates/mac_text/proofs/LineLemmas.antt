@@ -14,6 +14,7 @@ use Rattle.mac_text.specs.Scan.{◌>>=◌, Fails}
 use Rattle.mac_text.specs.Lines.{literal_of, literals_of}
 use Rattle.mac_text.specs.declared.fault.Fault.{Fault}
 use Rattle.mac_text.specs.declared.fault.Fault.TheVariants as faults
+use Rattle.mac_text.specs.declared.scanner.Cut.{Cut}
 use Rattle.mac_text.specs.declared.syntax.Data.{Data}
 
 -- ---- literals
@@ -22,8 +23,8 @@ use Rattle.mac_text.specs.declared.syntax.Data.{Data}
 abbrev pub with_earlier : {X : Type 0} → List X → Option (List X) → Option (List X)
 with_earlier front read = read >>= λ xs. Some (front ++ xs)
 
-abbrev pub texts_of : List (Bor (List ℕ)) → List (List ℕ)
-texts_of texts = map (λ text. text.now) texts
+abbrev pub texts_of : List Cut → List (List ℕ)
+texts_of cuts = map (λ cut. cut.text.now) cuts
 
 regroup : {X : Type 0} (front : List X) (x : X) (read : Option (List X)) → with_earlier front (with_earlier (x ∷ []) read) ≡ with_earlier (front ++ x ∷ []) read
 regroup front x None = refl
@@ -34,31 +35,31 @@ literals_of-cons : (radix : ℕ) (text : List ℕ) (texts : List (List ℕ))
 unfolding literals_of
 literals_of-cons radix text texts = refl
 
-texts_of-drop : (texts : List (Bor (List ℕ))) (i : ℕ) (d : Bor (List ℕ)) → i < length texts
-    → texts_of (drop i texts) ≡ (get_or texts i d).now ∷ texts_of (drop (i + 1) texts)
+texts_of-drop : (texts : List Cut) (i : ℕ) (d : Cut) → i < length texts
+    → texts_of (drop i texts) ≡ (get_or texts i d).text.now ∷ texts_of (drop (i + 1) texts)
 texts_of-drop texts i d lt = ap texts_of (drop_more texts i d lt)
 
-pub literals_go_on : (radix : ℕ) (front : List Data) (texts : List (Bor (List ℕ))) (i : ℕ) (d : Bor (List ℕ)) (given : Data)
+pub literals_go_on : (radix : ℕ) (front : List Data) (texts : List Cut) (i : ℕ) (d : Cut) (given : Data)
     (total : Option (List Data))
     → i < length texts
-    → literal_of radix (get_or texts i d).now ≡ Some given → with_earlier front (literals_of radix (texts_of (drop i texts))) ≡ total
+    → literal_of radix (get_or texts i d).text.now ≡ Some given → with_earlier front (literals_of radix (texts_of (drop i texts))) ≡ total
     → with_earlier (front ++ given ∷ []) (literals_of radix (texts_of (drop (i + 1) texts))) ≡ total
 literals_go_on radix front texts i d given total lt h so_far =
     let e =
     ap (literals_of radix) (texts_of-drop texts i d lt)
-    ∙ literals_of-cons radix (get_or texts i d).now (texts_of (drop (i + 1) texts))
+    ∙ literals_of-cons radix (get_or texts i d).text.now (texts_of (drop (i + 1) texts))
     ∙ ap (λ o. o >>= λ g. with_earlier (g ∷ []) (literals_of radix (texts_of (drop (i + 1) texts)))) h in
     sym (regroup front given (literals_of radix (texts_of (drop (i + 1) texts)))) ∙ sym (ap (with_earlier front) e) ∙ so_far
 
-pub literals_fail : (radix : ℕ) (e : Fault) (front : List Data) (texts : List (Bor (List ℕ))) (i : ℕ) (d : Bor (List ℕ))
+pub literals_fail : (radix : ℕ) (e : Fault) (front : List Data) (texts : List Cut) (i : ℕ) (d : Cut)
     (total : Option (List Data))
     → i < length texts
-    → Fails e (literal_of radix (get_or texts i d).now) → with_earlier front (literals_of radix (texts_of (drop i texts))) ≡ total → Fails e total
+    → Fails e (literal_of radix (get_or texts i d).text.now) → with_earlier front (literals_of radix (texts_of (drop i texts))) ≡ total → Fails e total
 literals_fail radix faults.Memory front texts i d total lt h so_far = tt
-literals_fail radix faults.Syntax front texts i d total lt h so_far =
+literals_fail radix (faults.Syntax wanted) front texts i d total lt h so_far =
     let e =
     ap (literals_of radix) (texts_of-drop texts i d lt)
-    ∙ literals_of-cons radix (get_or texts i d).now (texts_of (drop (i + 1) texts))
+    ∙ literals_of-cons radix (get_or texts i d).text.now (texts_of (drop (i + 1) texts))
     ∙ ap (λ o. o >>= λ g. with_earlier (g ∷ []) (literals_of radix (texts_of (drop (i + 1) texts)))) h in
     sym so_far ∙ ap (with_earlier front) e
 
@@ -72,7 +73,7 @@ drop_past [] (suc i) h = refl
 drop_past (x ∷ xs) zero h = absurd (omega arith)
 drop_past (x ∷ xs) (suc i) h = drop_past xs i (omega arith)
 
-pub literals_done : (radix : ℕ) (front : List Data) (texts : List (Bor (List ℕ))) (i : ℕ) (total : Option (List Data)) → length texts ≤ i
+pub literals_done : (radix : ℕ) (front : List Data) (texts : List Cut) (i : ℕ) (total : Option (List Data)) → length texts ≤ i
     → with_earlier front (literals_of radix (texts_of (drop i texts))) ≡ total → total ≡ Some front
 literals_done radix front texts i total le so_far =
     sym so_far ∙ ap (λ ts. with_earlier front (literals_of radix (texts_of ts))) (drop_past texts i le)

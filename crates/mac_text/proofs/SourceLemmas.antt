@@ -1,5 +1,5 @@
 -- The steps of the loop over a source's lines.
-use Rattle.std.proofs.Common.{◌≡◌, ℕ, ◌+◌, List, [], ◌∷◌, ◌++◌, Some, None, Result, Ok, Err, true, false, cond, length, get_or}
+use Rattle.std.proofs.Common.{◌≡◌, ℕ, zero, suc, ◌+◌, drop, List, [], ◌∷◌, ◌++◌, Some, None, Result, Ok, Err, true, false, cond, length, get_or}
 use Rattle.std.proofs.Common.{refl, sym, ap, ◌∙◌, append_assoc, append-nil, length-append, arith}
 use Rattle.std.proofs.Math.ListN.{set}
 use Rattle.std.proofs.Math.Seq.{set-append_seam, get_or-append_seam}
@@ -86,3 +86,22 @@ there front all line given at d here e = rw (placed front all line given at here
 
 pub one_longer : (front all : List Line) (line : Line) → all ≡ front ++ line ∷ [] → length all ≡ length front + 1
 one_longer front all line e = ap length e ∙ length-append front (line ∷ [])
+
+-- the first of the lines that are left stands behind those before it
+pub line_there : (all : List (List ℕ)) (n : ℕ) (text : List ℕ) (texts : List (List ℕ)) → drop n all ≡ text ∷ texts → get_or all n [] ≡ text
+line_there [] zero text texts h = absurd (cc)
+line_there [] (suc n) text texts h = absurd (cc)
+line_there (x ∷ xs) zero text texts h = ap (λ l. get_or l 0 []) h
+line_there (x ∷ xs) (suc n) text texts h = line_there xs n text texts h
+
+behind : (all : List (List ℕ)) (n : ℕ) (text : List ℕ) (texts : List (List ℕ)) → drop n all ≡ text ∷ texts → drop (suc n) all ≡ texts
+behind [] zero text texts h = absurd (cc)
+behind [] (suc n) text texts h = absurd (cc)
+behind (x ∷ xs) zero text texts h = ap (drop 1) h
+behind (x ∷ xs) (suc n) text texts h = behind xs n text texts h
+
+pub lines_behind : (all : List (List ℕ)) (n next : ℕ) (text : List ℕ) (texts : List (List ℕ)) → next ≡ n + 1 → drop n all ≡ text ∷ texts
+    → drop next all ≡ texts
+lines_behind all n next text texts after h =
+    let one : next ≡ suc n = omega (arith, after) in
+    ap (λ k. drop k all) one ∙ behind all n text texts h

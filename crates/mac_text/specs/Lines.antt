@@ -1,5 +1,5 @@
 -- Lines and whole sources (MACRO-10 Assembler Manual, this project's profile).
-use Rattle.std.specs.Prelude.{◌≡◌, ℕ, ◌+◌, Bool, true, false, ◌==◌, ◌&&◌, not, nat_lt, nat_le, List, [], ◌∷◌}
+use Rattle.std.specs.Prelude.{◌≡◌, ℕ, ◌+◌, ◌-◌, ◌≤◌, get_or, Bool, true, false, ◌==◌, ◌&&◌, not, nat_lt, nat_le, List, [], ◌∷◌}
 use Rattle.std.specs.Prelude.{length, Option, Some, None, Result, Ok, Err, if◌then◌else◌}
 use Rattle.std.specs.List.{list_all}
 use Rattle.std.specs.Str.Lines.{lines}
@@ -118,9 +118,14 @@ program_of source = lines_from 8 1 (lines source)
 
 abbrev pub Refuses : ParseError → Result (List Line) ℕ → Type 0
 Refuses errors.Memory read = Unit {0}
-Refuses (errors.Syntax number) read = read ≡ Err number
+Refuses (errors.Syntax fault) read = read ≡ Err fault.line
 
 -- the program, or the first line that is not in the grammar, unless memory ran out
 abbrev pub Parses : Result (List Line) ParseError → Result (List Line) ℕ → Type 0
 Parses (Ok program) read = read ≡ Ok program
 Parses (Err e) read = Refuses e read
+
+-- what is at fault stands in the line that is refused, or right behind it
+abbrev pub IsInLine : ParseError → List ℕ → Type 0
+IsInLine errors.Memory source = Unit {0}
+IsInLine (errors.Syntax fault) source = fault.position ≤ length (get_or (lines source) (fault.line - 1) [])

@@ -22,7 +22,7 @@ o >>= f = option_and_then f o
 -- what a function returned, seen by view, is what the grammar gives, unless memory ran out
 abbrev pub Fails : {Y : Type 0} → Fault → Option Y → Type 0
 Fails faults.Memory read = Unit {0}
-Fails faults.Syntax read = read ≡ None
+Fails (faults.Syntax wanted) read = read ≡ None
 
 abbrev pub Gives : {X Y : Type 0} → (X → Y) → Result X Fault → Option Y → Type 0
 Gives view (Ok x) read = read ≡ Some (view x)

@@ -95,6 +95,11 @@ pub fn word_len(text: &[u8]) -> usize
     text.len()
 }
 
+/// How many bytes a text has before one that is not ASCII.
+pub fn plain_len(text: &[u8]) -> usize {
+    text.iter().position(|c| *c >= 128).unwrap_or(text.len())
+}
+
 /// How many characters a text has before a comment.
 pub fn title_len(text: &[u8]) -> usize
     ensures value { result ≡ prefix_len is_title_character text.now }

@@ -10,7 +10,7 @@ ghost use Rattle.mac_text.specs.Terms.{alone};
 ghost use Rattle.mac_text.specs.declared.syntax.Sign.TheVariants.{Plus};
 
 use crate::characters::is_digit;
-use crate::fault::Fault;
+use crate::fault::{Fault, Wanted};
 use crate::numbers::{leading_number, number};
 use crate::optional::{clear, fill};
 use crate::scanner::Scanner;
@@ -42,7 +42,7 @@ fn word_term(scan: &mut Scanner<'_>) -> Result<Term, Fault>
     } else if word == b".".as_slice() {
         Term::Here
     } else {
-        Term::Number(number(scan.alloc(), scan.radix(), word)?)
+        Term::Number(number(scan.alloc(), scan.radix(), word, Wanted::Term)?)
     };
     scan.advance(word.len());
     Ok(term)
@@ -56,25 +56,30 @@ pub fn marked_number(scan: &mut Scanner<'_>) -> Result<Natural, Fault>
     let radix = match scan.head() {
         Some(b'D' | b'd') => 10,
         Some(b'O' | b'o') => 8,
-        _ => return Err(Fault::Syntax),
+        _ => return Err(Fault::Syntax(Wanted::Mark)),
     };
     scan.advance(1);
     let digits = scan.word();
-    let value = number(scan.alloc(), radix, digits)?;
+    let value = number(scan.alloc(), radix, digits, Wanted::Marked)?;
     scan.advance(digits.len());
     Ok(value)
 }
 
-/// What follows `[`: a literal's text, which is cut out, and its bracket. A literal holds none itself.
+/// What follows `[`: a literal's text, which is cut out, and its bracket. A literal holds none itself. A literal that is at
+/// fault is one from its bracket on.
 #[tactic(auto, unfolding(crate::specs::Expressions::literal_at))]
-fn literal(scan: &mut Scanner<'_>) -> Result<Term, Fault>
+fn literal<'a>(scan: &mut Scanner<'a>, bracket: &'a [u8]) -> Result<Term, Fault>
     ensures { Gives (λ x. (x, scan.new)) result (literal_at scan.old) }
 {
     if scan.is_in_literal() {
-        return Err(Fault::Syntax);
+        scan.go_back(bracket);
+        return Err(Fault::Syntax(Wanted::NoLiteral));
     }
     match literal_len(scan.rest()) {
-        None => Err(Fault::Syntax),
+        None => {
+            scan.go_back(bracket);
+            Err(Fault::Syntax(Wanted::LiteralEnd))
+        }
         Some(len) => Ok(Term::Literal(scan.cut(len)?)),
     }
 }
@@ -86,8 +91,9 @@ fn term(scan: &mut Scanner<'_>) -> Result<Term, Fault>
     scan.skip();
     match scan.head() {
         Some(b'[') => {
+            let bracket = scan.rest();
             scan.advance(1);
-            literal(scan)
+            literal(scan, bracket)
         }
         Some(b'^') => {
             scan.advance(1);
@@ -204,6 +210,7 @@ fn more_terms(scan: &mut Scanner<'_>, most: usize, expression: &mut Expression) 
 pub fn expression(scan: &mut Scanner<'_>) -> Result<Expression, Fault>
     ensures { Gives (λ x. (x, scan.new)) result (expression_at scan.old) }
 {
+    let from = scan.position();
     let sign = match sign(scan) {
         None => Sign::Plus,
         Some(sign) => {
@@ -216,6 +223,7 @@ pub fn expression(scan: &mut Scanner<'_>) -> Result<Expression, Fault>
     if scan.is_at_sign() {
         more_terms(scan, most, &mut expression)?;
     }
+    expression.stands(from, scan.position());
     Ok(expression)
 }
 

@@ -7,16 +7,16 @@ ghost use Rattle.mac_text.specs.Scan.{Gives, after_blanks, word_of, items_at};
 ghost use Rattle.mac_text.specs.Lines.{is_ascii, next_label_at, optional_statement_at, whole_statement_at, gives_words, with_words};
 ghost use Rattle.mac_text.specs.Lines.{literal_data, literal_of, literals_of, line_of, radix_after, is_end};
 
-use crate::characters::is_ascii;
+use crate::characters::{is_ascii, plain_len};
 use crate::expressions::is_name;
-use crate::fault::Fault;
+use crate::fault::{Fault, Stopped, Wanted};
 use crate::labels::Labels;
 use crate::optional::{clear, discard};
-use crate::scanner::Scanner;
+use crate::scanner::{Cut, Scanner};
 use crate::sequence::Sequence;
 use crate::statements::statement;
 use crate::symbol::Symbol;
-use crate::syntax::{Data, Line, Statement, TextForm};
+use crate::syntax::{Data, Instruction, Line, Statement, TextForm};
 use std::alloc::Global;
 
 /// Reads a label: a name with a colon right behind it; None if no label comes next. The second of the pair is the word that
@@ -72,6 +72,29 @@ fn optional_statement(
     Ok(())
 }
 
+/// Whether nothing stands behind the name of an instruction.
+fn is_bare(instruction: &Instruction) -> bool {
+    let operand = &instruction.operand;
+    instruction.accumulator.is_none()
+        && !operand.indirect
+        && operand.address.is_none()
+        && operand.index.is_none()
+}
+
+/// What is wanted behind a statement that begins with this word, where something else stands.
+#[inline(never)]
+fn wanted_behind(statement: &Option<Statement>, word: &[u8], next: Option<u8>) -> Wanted {
+    match statement {
+        Some(Statement::Data(Data::Value(_))) if is_name(word) && next != Some(b';') => {
+            Wanted::Operation
+        }
+        Some(Statement::Data(Data::Instruction(given))) if is_bare(given) => Wanted::Operand,
+        Some(Statement::Data(Data::Instruction(_) | Data::Value(_) | Data::Exp(_)))
+            if next != Some(b',') => { Wanted::ValueEnd }
+        _ => Wanted::LineEnd,
+    }
+}
+
 /// The same, and refuses the line if anything but a comment stands behind the statement.
 #[inline(always)]
 #[tactic(auto, unfolding(crate::specs::Lines::whole_statement_at))]
@@ -87,7 +110,7 @@ fn whole_statement(
     if scan.is_at_end() {
         Ok(())
     } else {
-        Err(Fault::Syntax)
+        Err(Fault::Syntax(wanted_behind(out, word, scan.head())))
     }
 }
 
@@ -110,7 +133,7 @@ fn with_words(given: Data) -> Result<Data, Fault>
         Ok(given)
     } else {
         discard(given);
-        Err(Fault::Syntax)
+        Err(Fault::Syntax(Wanted::Characters))
     }
 }
 
@@ -122,23 +145,26 @@ fn literal_data(statement: Option<Statement>) -> Result<Data, Fault>
         Some(Statement::Data(data)) => with_words(data),
         other => {
             discard(other);
-            Err(Fault::Syntax)
+            Err(Fault::Syntax(Wanted::Words))
         }
     }
 }
 
-/// The statement in a literal.
+/// The statement in a literal. Where it is at fault, it is noted where.
 #[tactic(auto, unfolding(crate::specs::Lines::literal_of))]
-fn literal(alloc: Global, radix: u8, text: &[u8]) -> Result<Data, Fault>
+fn literal(alloc: Global, radix: u8, cut: Cut<'_>, stopped: &mut Stopped) -> Result<Data, Fault>
     requires { radix ≤ 10 }
-    ensures { Gives (λ x. x) result (literal_of radix text.now) }
+    ensures { Gives (λ x. x) result (literal_of radix cut.entry.text.now) }
 {
-    let mut scan = Scanner::new(alloc, radix, true, text);
+    let mut scan = Scanner::new(alloc, radix, true, cut);
     let mut out = None;
     let word = scan.next_word();
+    stopped.statement = scan.position_behind_blanks();
+    stopped.position = stopped.statement;
     match whole_statement(&mut scan, word, &mut out) {
         Ok(()) => literal_data(out),
         Err(fault) => {
+            stopped.position = scan.position_behind_blanks();
             discard(out);
             Err(fault)
         }
@@ -147,13 +173,18 @@ fn literal(alloc: Global, radix: u8, text: &[u8]) -> Result<Data, Fault>
 
 /// The statements in the literals of a line.
 #[inline(never)]
-fn literals(alloc: Global, radix: u8, texts: &[&[u8]]) -> Result<Sequence<Data>, Fault>
+fn literals(
+    alloc: Global,
+    radix: u8,
+    cuts: &[Cut<'_>],
+    stopped: &mut Stopped,
+) -> Result<Sequence<Data>, Fault>
     requires { radix ≤ 10 }
-    ensures { Gives (λ x. x) result (literals_of radix (map (λ text. text.now) texts.now)) }
+    ensures { Gives (λ x. x) result (literals_of radix (map (λ cut. cut.text.now) cuts.now)) }
 {
     let mut literals = Sequence::new(alloc);
-    for text in texts {
-        literals.push(literal(alloc, radix, text)?)?;
+    for cut in cuts {
+        literals.push(literal(alloc, radix, *cut, stopped)?)?;
     }
     Ok(literals)
 }
@@ -164,20 +195,21 @@ fn literals(alloc: Global, radix: u8, texts: &[&[u8]]) -> Result<Sequence<Data>,
 fn fill_literals(
     alloc: Global,
     radix: u8,
-    texts: &[&[u8]],
+    cuts: &[Cut<'_>],
     out: &mut Sequence<Data>,
+    stopped: &mut Stopped,
 ) -> Result<(), Fault>
     requires { radix ≤ 10 }
-    ensures { Gives (λ _. out.new) result (literals_of radix (map (λ text. text.now) texts.now)) }
+    ensures { Gives (λ _. out.new) result (literals_of radix (map (λ cut. cut.text.now) cuts.now)) }
 {
-    if texts.is_empty() && out.is_empty() {
+    if cuts.is_empty() && out.is_empty() {
         return Ok(());
     }
-    *out = literals(alloc, radix, texts)?;
+    *out = literals(alloc, radix, cuts, stopped)?;
     Ok(())
 }
 
-/// Reads a line into `out`; `is_known_ascii` saves the test that it is ASCII.
+/// Reads a line into `out`; `is_known_ascii` saves the test that it is ASCII. Where it is not in the grammar, it is noted where.
 #[tactic(auto, unfolding(crate::specs::Lines::line_of))]
 pub fn read_line(
     alloc: Global,
@@ -185,18 +217,30 @@ pub fn read_line(
     is_known_ascii: bool,
     text: &[u8],
     out: &mut Line,
+    stopped: &mut Stopped,
 ) -> Result<(), Fault>
     requires radix { radix ≤ 10 }
     requires known { IsTrue is_known_ascii → list_all is_ascii text.now ≡ true }
     ensures { Gives (λ _. out.new) result (line_of radix text.now) }
 {
     if !is_known_ascii && !is_ascii(text) {
-        return Err(Fault::Syntax);
+        stopped.position = plain_len(text);
+        return Err(Fault::Syntax(Wanted::Ascii));
     }
-    let mut scan = Scanner::new(alloc, radix, false, text);
+    let whole = Cut {
+        text,
+        until: text.len(),
+    };
+    let mut scan = Scanner::new(alloc, radix, false, whole);
     let word = labels(&mut scan, &mut out.labels)?;
-    whole_statement(&mut scan, word, &mut out.statement)?;
-    fill_literals(alloc, radix, scan.cuts(), &mut out.literals)
+    stopped.statement = scan.position_behind_blanks();
+    match whole_statement(&mut scan, word, &mut out.statement) {
+        Ok(()) => fill_literals(alloc, radix, scan.cuts(), &mut out.literals, stopped),
+        Err(fault) => {
+            stopped.position = scan.position_behind_blanks();
+            Err(fault)
+        }
+    }
 }
 
 /// The radix of the numbers on the lines behind this one.

@@ -8,18 +8,21 @@ ghost use Rattle.mac_text.specs.declared.syntax.Term.TheVariants.{Number};
 ghost use Rattle.mac_text.specs.Numbers.{is_digit_of, number_of};
 
 use crate::characters::is_name_character;
-use crate::fault::Fault;
+use crate::fault::{Fault, Wanted};
 use std::alloc::Global;
 use whole_numbers::Natural;
 
-/// The number of these digits.
+/// The number of these digits; `wanted` is what is wanted where there are none.
 #[tactic(auto, unfolding(crate::specs::Numbers::number_of))]
-pub fn number(alloc: Global, radix: u8, digits: &[u8]) -> Result<Natural, Fault>
+pub fn number(alloc: Global, radix: u8, digits: &[u8], wanted: Wanted) -> Result<Natural, Fault>
     requires { radix ≤ 10 }
     ensures { Gives (λ n. n) result (number_of radix digits.now) }
 {
-    if digits.is_empty() || !has_digits_only(radix, digits) {
-        return Err(Fault::Syntax);
+    if digits.is_empty() {
+        return Err(Fault::Syntax(wanted));
+    }
+    if !has_digits_only(radix, digits) {
+        return Err(Fault::Syntax(Wanted::Digits(radix)));
     }
     Ok(Natural::from_digits(alloc, radix, digits)?)
 }

@@ -10,10 +10,18 @@ ghost use Rattle.mac_text.specs.Characters.{is_name_character};
 ghost use Rattle.mac_text.specs.Texts.{take_text};
 
 use crate::characters::{begins_with_blank, blanks_len, is_name_character, title_len, word_len};
-use crate::fault::Fault;
+use crate::fault::{Fault, Wanted};
 use crate::texts::text_of;
 use std::alloc::Global;
 use std::marker::Model;
+
+/// A text of a line.
+#[derive(Clone, Copy)]
+pub struct Cut<'a> {
+    pub text: &'a [u8],
+    /// How many bytes of the line stand before its end.
+    pub until: usize,
+}
 
 /// What is left to read of a line, and the literals that were cut out of it so far.
 #[derive(Drop)]
@@ -22,7 +30,9 @@ pub struct Scanner<'a> {
     radix: u8,
     in_literal: bool,
     rest: &'a [u8],
-    cuts: Vec<&'a [u8]>,
+    /// How many bytes of the line stand before the end of the rest.
+    until: usize,
+    cuts: Vec<Cut<'a>>,
 }
 
 impl<'a> Model for Scanner<'a> {
@@ -34,7 +44,7 @@ impl<'a> Model for Scanner<'a> {
     ghost view = { λ s. record {
       radix = s.radix;
       in_literal = s.in_literal;
-      cuts = map (λ cut. cut.now) s.cuts.items;
+      cuts = map (λ cut. cut.text.now) s.cuts.items;
       rest = s.rest.now;
     } };
 
@@ -42,15 +52,17 @@ impl<'a> Model for Scanner<'a> {
 }
 
 impl<'a> Scanner<'a> {
-    pub fn new(alloc: Global, radix: u8, in_literal: bool, text: &'a [u8]) -> Self
+    /// Nothing of this text is read.
+    pub fn new(alloc: Global, radix: u8, in_literal: bool, whole: Cut<'a>) -> Self
         requires { radix ≤ 10 }
-        ensures { result ≡ record { radix = radix; in_literal = in_literal; cuts = []; rest = text.now } }
+        ensures { result ≡ record { radix = radix; in_literal = in_literal; cuts = []; rest = whole.entry.text.now } }
     {
         Scanner {
             alloc,
             radix,
             in_literal,
-            rest: text,
+            rest: whole.text,
+            until: whole.until,
             cuts: Vec::new(alloc),
         }
     }
@@ -79,6 +91,23 @@ impl<'a> Scanner<'a> {
         ensures { result ≡ length self.now.rest }
     {
         self.rest.len()
+    }
+
+    /// How many bytes of the line stand before the rest.
+    pub fn position(&self) -> usize {
+        self.until.saturating_sub(self.rest.len())
+    }
+
+    /// The same, and the blanks that the rest begins with.
+    pub fn position_behind_blanks(&self) -> usize {
+        self.position().saturating_add(blanks_len(self.rest))
+    }
+
+    /// Goes back to what was left before.
+    pub fn go_back(&mut self, rest: &'a [u8])
+        ensures { self.new ≡ record self.old { rest = rest.now } }
+    {
+        self.rest = rest;
     }
 
     /// Skips blanks.
@@ -164,7 +193,11 @@ impl<'a> Scanner<'a> {
     {
         let rest = self.rest;
         let at = self.cuts.len();
-        self.cuts.push(&rest[..n])?;
+        let until = self.position().saturating_add(n);
+        self.cuts.push(Cut {
+            text: &rest[..n],
+            until,
+        })?;
         self.rest = &rest[n + 1..];
         Ok(at)
     }
@@ -188,11 +221,21 @@ impl<'a> Scanner<'a> {
         ensures { Gives (λ x. (x.now, self.new)) result (take_text self.old) }
     {
         match text_of(self.rest) {
-            None => Err(Fault::Syntax),
+            None => Err(Fault::Syntax(self.wanted_text())),
             Some((text, behind)) => {
                 self.rest = behind;
                 Ok(text)
             }
+        }
+    }
+
+    /// What is wanted where no text comes next.
+    fn wanted_text(&self) -> Wanted {
+        let rest = self.rest;
+        if blanks_len(rest) == rest.len() {
+            Wanted::Text
+        } else {
+            Wanted::TextEnd
         }
     }
 
@@ -205,8 +248,8 @@ impl<'a> Scanner<'a> {
     }
 
     /// The literals so far.
-    pub fn cuts(&self) -> &[&'a [u8]]
-        ensures { map (λ cut. cut.now) result.now ≡ self.now.cuts }
+    pub fn cuts(&self) -> &[Cut<'a>]
+        ensures { map (λ cut. cut.text.now) result.now ≡ self.now.cuts }
     {
         self.cuts.as_slice()
     }

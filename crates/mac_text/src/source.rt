@@ -1,13 +1,13 @@
 //! Whole sources.
 
-ghost use Rattle.std.specs.Prelude.{◌≡◌, ◌<◌, [], ◌∷◌, ◌++◌, ℕ, Bool, true, length, OnOk};
+ghost use Rattle.std.specs.Prelude.{◌≡◌, ◌<◌, [], ◌∷◌, ◌++◌, ℕ, Bool, true, length, OnOk, IfErr};
 ghost use Rattle.std.specs.List.{list_all};
 ghost use Rattle.std.specs.Str.Lines.{lines, strip_carriage_return};
-ghost use Rattle.mac_text.specs.Lines.{program_of, Parses};
+ghost use Rattle.mac_text.specs.Lines.{program_of, Parses, IsInLine};
 ghost use Rattle.mac_text.specs.declared.syntax.Line.{Line};
 
 use crate::characters::is_ascii;
-use crate::fault::{Fault, ParseError};
+use crate::fault::{Fault, ParseError, Stopped};
 use crate::labels::Labels;
 use crate::line::{is_end, radix_after, read_line};
 use crate::sequence::Sequence;
@@ -53,9 +53,10 @@ fn add_line(alloc: Global, lines: &mut Vec<Line>) -> Result<(), AllocError>
 /// The statements of a source, up to END: see the grammar in `specs/`.
 ///
 /// A line feed ends a line; a carriage return right before it is dropped, and a last line without a line feed counts if it is
-/// not empty. Nothing behind END is read. The error names the first line that is not in the grammar.
+/// not empty. Nothing behind END is read. The error names the first line that is not in the grammar, and the position in it.
 pub fn parse(alloc: Global, source: &[u8]) -> Result<Program, ParseError>
-    ensures { Parses result (program_of source.now) }
+    ensures program { Parses result (program_of source.now) }
+    ensures position { IfErr result (λ e. IsInLine e source.now) }
 {
     let is_known_ascii = is_ascii(source);
     let mut lines = Vec::new(alloc);
@@ -65,10 +66,23 @@ pub fn parse(alloc: Global, source: &[u8]) -> Result<Program, ParseError>
         let (text, behind) = split_line(rest);
         let at = lines.len();
         add_line(alloc, &mut lines)?;
-        match read_line(alloc, radix, is_known_ascii, text, &mut lines[at]) {
+        let mut stopped = Stopped {
+            statement: 0,
+            position: 0,
+        };
+        match read_line(
+            alloc,
+            radix,
+            is_known_ascii,
+            text,
+            &mut lines[at],
+            &mut stopped,
+        ) {
             Ok(()) => {}
             Err(Fault::Memory) => return Err(ParseError::Memory),
-            Err(Fault::Syntax) => return Err(ParseError::Syntax(at + 1)),
+            Err(Fault::Syntax(wanted)) => {
+                return Err(ParseError::Syntax(stopped.fault(at + 1, text.len(), wanted)));
+            }
         }
         radix = radix_after(&lines[at], radix);
         if is_end(&lines[at]) {

@@ -12,7 +12,7 @@ ghost use Rattle.mac_text.specs.Names.{folded};
 ghost use Rattle.mac_text.specs.Keywords.{form_of};
 
 use crate::expressions::{expression, is_name, marked_number, optional_expression};
-use crate::fault::Fault;
+use crate::fault::{Fault, Wanted};
 use crate::keyword::{Form, form_of};
 use crate::numbers::number;
 use crate::operations::operation;
@@ -37,7 +37,7 @@ fn index(scan: &mut Scanner<'_>, out: &mut Option<Expression>) -> Result<(), Fau
     }
     fill(out, expression(scan)?);
     if !scan.eat(b')') {
-        return Err(Fault::Syntax);
+        return Err(Fault::Syntax(Wanted::IndexEnd));
     }
     Ok(())
 }
@@ -108,7 +108,7 @@ fn instruction(
             return Ok(());
         }
     }
-    Err(Fault::Syntax)
+    Err(Fault::Syntax(Wanted::Allowed))
 }
 
 /// Two expressions with a comma between them.
@@ -118,7 +118,7 @@ fn pair(scan: &mut Scanner<'_>) -> Result<(Expression, Expression), Fault>
 {
     let left = expression(scan)?;
     if !scan.eat(b',') {
-        return Err(Fault::Syntax);
+        return Err(Fault::Syntax(Wanted::SecondValue));
     }
     let right = expression(scan)?;
     Ok((left, right))
@@ -172,7 +172,7 @@ fn decimal(scan: &mut Scanner<'_>) -> Result<Natural, Fault>
     ensures { Gives (λ x. (x, scan.new)) result (decimal_at scan.old) }
 {
     let digits = scan.word();
-    let value = number(scan.alloc(), 10, digits)?;
+    let value = number(scan.alloc(), 10, digits, Wanted::Decimal)?;
     scan.advance(digits.len());
     Ok(value)
 }
@@ -196,7 +196,7 @@ fn point(scan: &mut Scanner<'_>) -> Result<Data, Fault>
 {
     let size = lone_number(scan)?;
     if !scan.eat(b',') {
-        return Err(Fault::Syntax);
+        return Err(Fault::Syntax(Wanted::Address));
     }
     let mut out = Operand {
         indirect: false,

@@ -18,7 +18,21 @@ use whole_numbers::Natural;
 #[derive(Debug, Drop)]
 pub struct Expression {
     terms: Terms,
+    span: Span,
 }
+
+/// Where an expression stands in its line, with blanks around it: how many bytes stand before it, and before its end.
+#[derive(Clone, Copy, Debug, PartialEq, Eq)]
+pub struct Span {
+    pub from: u32,
+    pub until: u32,
+}
+
+/// Not yet known.
+const NOWHERE: Span = Span { from: 0, until: 0 };
+
+/// The greatest position that is noted.
+const MOST: usize = 0xFFFF_FFFF;
 
 #[derive(Debug, Drop)]
 enum Terms {
@@ -93,6 +107,21 @@ impl Expression {
         }
     }
 
+    /// Where it stands.
+    pub fn span(&self) -> Span {
+        self.span
+    }
+
+    /// Notes where it stands.
+    pub(crate) fn stands(&mut self, from: usize, until: usize)
+        ensures { self.new ≡ self.old }
+    {
+        self.span = Span {
+            from: from.min(MOST) as u32,
+            until: until.min(MOST) as u32,
+        };
+    }
+
     /// A number with its sign.
     pub(crate) fn number(sign: Sign, number: u64) -> Self
         ensures { result ≡ alone sign (Number number) }
@@ -102,6 +131,7 @@ impl Expression {
                 Sign::Plus => Terms::Number(number),
                 Sign::Minus => Terms::Negative(number),
             },
+            span: NOWHERE,
         }
     }
 
@@ -111,6 +141,7 @@ impl Expression {
     {
         Expression {
             terms: Terms::Label(label),
+            span: NOWHERE,
         }
     }
 
@@ -118,7 +149,10 @@ impl Expression {
     pub(crate) fn here() -> Self
         ensures { result ≡ alone Plus Here }
     {
-        Expression { terms: Terms::Here }
+        Expression {
+            terms: Terms::Here,
+            span: NOWHERE,
+        }
     }
 
     /// The expression of one term.
@@ -128,7 +162,10 @@ impl Expression {
         match small(&term) {
             Some(terms) => {
                 discard(term);
-                Ok(Expression { terms })
+                Ok(Expression {
+                    terms,
+                    span: NOWHERE,
+                })
             }
             None => {
                 let mut terms = Vec::new(alloc);
@@ -182,6 +219,7 @@ fn boxed(alloc: Global, terms: Vec<SignedTerm>) -> Result<Expression, AllocError
 {
     Ok(Expression {
         terms: Terms::Many(Box::new(alloc, Many::Sum(terms))?),
+        span: NOWHERE,
     })
 }
 

@@ -40,7 +40,7 @@ pub enum Fault {
     Refused(Name),
     /// What needs linking; whether it is `A##`.
     Linking(Name, bool),
-    /// Segments.
+    /// A statement about segments, which are not supported.
     Segments(Name),
     /// UNIVERSAL and its like.
     Universal(Name),
@@ -84,7 +84,7 @@ pub enum Fault {
     NotInLiteral(Name),
     /// A literal without words.
     EmptyLiteral,
-    /// No `>` for the `<` of a pseudo-operation, and what it is for.
+    /// `>` is missing: of which statement, for which of its texts.
     OpenText(Name, Name),
     /// IRP or IRPC without a dummy.
     IrpOutside(Name),

@@ -7,4 +7,4 @@ mod words;
 
 pub use faults::Fault;
 pub use reports::{Failure, Report};
-pub use words::push_report;
+pub use words::{push_around_place, push_report, push_words};

@@ -131,7 +131,7 @@ fn push_named(out: &mut Vec<u8>, fault: Fault) -> Result<(), AllocError> {
 }
 
 /// Adds the words of a fault.
-fn push_words(out: &mut Vec<u8>, fault: Fault) -> Result<(), AllocError> {
+pub fn push_words(out: &mut Vec<u8>, fault: Fault) -> Result<(), AllocError> {
     match fault {
         Fault::Expected(found) => push_around(out, "expected a value, not \"", found, "\""),
         Fault::ExpectedEnd(found) => push_around(
@@ -167,7 +167,11 @@ fn push_words(out: &mut Vec<u8>, fault: Fault) -> Result<(), AllocError> {
 }
 
 /// Adds the lines of the texts around a place, the innermost first; `outer` are those that the stream kept.
-fn push_around_place(out: &mut Vec<u8>, place: Place, outer: &[Around]) -> Result<(), AllocError> {
+pub fn push_around_place(
+    out: &mut Vec<u8>,
+    place: Place,
+    outer: &[Around],
+) -> Result<(), AllocError> {
     let mut around = place.around;
     for _ in 0..place.texts.min(MOST_SHOWN) {
         push_of(out, " in ", around.name, " line ")?;

@@ -5,7 +5,6 @@ mod from_option;
 mod macro_sources;
 mod names;
 mod programs;
-mod reporters;
 mod reports;
 
 pub use from_option::{make_from, packing_in};

@@ -3,16 +3,13 @@ ghost use Rattle.std.specs.Prelude.{IfOk};
 ghost use Rattle.source_check.specs.Same.{ComesTo};
 ghost use Rattle.program_files.specs.Reads.{HasWritten, HandsOver};
 
-use crate::reporters::is_reported_by_subset;
 use crate::reports::report_text;
 use macro_assembly::assemble;
 use macro_output::{Written, source_of};
 use macro_state::Assembly;
 use macro_symbols::DefinitionKind;
 use macro_values::word_of;
-use source_labels::{
-    Assembled, Fault, NamedNumber, Program, Source, faults_of, faults_text, places_in,
-};
+use source_labels::{Assembled, NamedNumber, Program, Source, places_in};
 use std::alloc::{AllocError, Global};
 
 /// The line where the words of a source are not those that are read back.
@@ -63,23 +60,10 @@ fn program_of<'a>(
     })
 }
 
-/// What is wrong with a source that both assemblers refuse, the subset's with this fault first. The lines of PRINTX stand
-/// before it.
-fn refusal_text(
-    state: &Assembly,
-    source: &Source<'_>,
-    first: Fault,
-    most: usize,
-) -> Result<Vec<u8>, AllocError> {
-    let alloc = state.alloc;
-    let mut report = Vec::from_slice(alloc, state.typed.as_slice())?;
-    let faults = faults_of(alloc, source.text.as_slice(), first)?;
-    let faults = faults.as_slice();
-    let text = if is_reported_by_subset(state, source.text.as_slice(), faults)? {
-        faults_text(alloc, source, faults, most)?
-    } else {
-        report_text(state, source, most)?
-    };
+/// What is wrong with a source. The lines of PRINTX stand before it.
+fn refusal_text(state: &Assembly, source: &Source<'_>, most: usize) -> Result<Vec<u8>, AllocError> {
+    let mut report = Vec::from_slice(state.alloc, state.typed.as_slice())?;
+    let text = report_text(state, source, most)?;
     report.extend_from_slice(text.as_str().as_bytes())?;
     Ok(report)
 }
@@ -88,13 +72,12 @@ fn refusal_text(
 fn answer_of<'a>(
     state: &Assembly,
     source: &Source<'a>,
-    first: Fault,
     most: usize,
 ) -> Result<Assembled<'a>, AllocError>
     ensures { HandsOver result }
 {
     if !state.faults.is_empty() {
-        return Ok(Assembled::Refused(refusal_text(state, source, first, most)?));
+        return Ok(Assembled::Refused(refusal_text(state, source, most)?));
     }
     let Some(written) = source_of(state)? else {
         let file = source.file;
@@ -107,18 +90,17 @@ fn answer_of<'a>(
 /// Lets an assembly go.
 fn let_go(_state: Assembly) {}
 
-/// What comes of a source that the assembler of the subset refuses with this fault: a program that stands for the source of
+/// What comes of a source that the assembler of the subset refuses: a program that stands for the source of
 /// the subset that is written for it, or what is wrong with it.
 pub fn assemble_macro<'a>(
     alloc: Global,
     source: &Source<'a>,
-    first: Fault,
     most: usize,
 ) -> Result<Assembled<'a>, AllocError>
     ensures { HandsOver result }
 {
     let state = assemble(alloc, source.text.as_slice())?;
-    let answer = answer_of(&state, source, first, most);
+    let answer = answer_of(&state, source, most);
     let_go(state);
     answer
 }

@@ -56,7 +56,7 @@ fn load_source<'a>(
 {
     match assemble_source(alloc, file)? {
         Tried::Program(program) => Ok(Assembled::Program(program)),
-        Tried::Fault(first) => assemble_macro(alloc, file, first, most),
+        Tried::Refused => assemble_macro(alloc, file, most),
     }
 }
 

@@ -1,6 +1,6 @@
 //! What MACRO-10 reports of a source, in the form in which the faults of the subset are reported.
 
-use macro_faults::{Fault as MacroFault, Report, push_report};
+use macro_faults::{Fault as MacroFault, Report, push_around_place, push_words};
 use macro_names::{Name, text_of};
 use macro_state::Assembly;
 use script_io::Parts;
@@ -31,18 +31,6 @@ fn by_place(alloc: Global, faults: &[Report]) -> Result<Vec<Report>, AllocError>
         sorted.insert(position.min(sorted.len()), *report)?;
     }
     Ok(sorted)
-}
-
-/// The words of a line that `macro` writes on a fault: what stands behind its third blank.
-fn words_in(line: &[u8]) -> &[u8] {
-    let mut rest = line;
-    for _ in 0..3 {
-        match rest.iter().position(|c| *c == b' ') {
-            Some(blank) => rest = rest.get(blank.saturating_add(1)..).unwrap_or(&[]),
-            None => return rest,
-        }
-    }
-    rest
 }
 
 /// The letter that MACRO-10 has for a fault, or nothing where it has none.
@@ -142,27 +130,12 @@ fn advice_on(
     }
 }
 
-/// Adds the lines on a fault: that of `push_error`, with the letter of MACRO-10; the macros, conditions and rounds around it,
-/// the innermost first, a line each; and advice, if there is any.
-fn push_fault(
-    text: &mut String,
-    state: &Assembly,
-    source: &Source<'_>,
-    report: &Report,
-) -> Result<(), AllocError> {
-    let alloc = state.alloc;
-    let mut written = Vec::new(alloc);
-    push_report(&mut written, report, state.stream.around())?;
-    let mut lines = Parts::of(written.as_slice(), b'\n');
-    let mut reason = String::new(alloc);
-    push_shown(&mut reason, words_in(lines.next().unwrap_or(&[])))?;
-    let place = ErrorPlace {
-        line: report.place.line as usize,
-        column: report.place.column as usize,
-    };
-    let mark = mark_of(alloc, report.fault)?;
-    push_error(text, source, place, reason.as_str(), mark.as_str())?;
-    for _ in 0..written.len() {
+/// Adds the lines of the macros, conditions and rounds around a fault, the innermost first.
+fn push_around(text: &mut String, state: &Assembly, report: &Report) -> Result<(), AllocError> {
+    let mut around = Vec::new(state.alloc);
+    push_around_place(&mut around, report.place, state.stream.around())?;
+    let mut lines = Parts::of(around.as_slice(), b'\n');
+    for _ in 0..around.len() {
         let Some(line) = lines.next() else {
             break;
         };
@@ -172,6 +145,29 @@ fn push_fault(
             text.push('\n')?;
         }
     }
+    Ok(())
+}
+
+/// Adds the lines on a fault: that of `push_error`, with the letter of MACRO-10; the macros, conditions and rounds around it,
+/// the innermost first, a line each; and advice, if there is any.
+fn push_fault(
+    text: &mut String,
+    state: &Assembly,
+    source: &Source<'_>,
+    report: &Report,
+) -> Result<(), AllocError> {
+    let alloc = state.alloc;
+    let mut words = Vec::new(alloc);
+    push_words(&mut words, report.fault)?;
+    let mut reason = String::new(alloc);
+    push_shown(&mut reason, words.as_slice())?;
+    let place = ErrorPlace {
+        line: report.place.line as usize,
+        column: report.place.column as usize,
+    };
+    let mark = mark_of(alloc, report.fault)?;
+    push_error(text, source, place, reason.as_str(), mark.as_str())?;
+    push_around(text, state, report)?;
     match advice_on(state, source.text.as_slice(), report)? {
         Some(advice) => write!(text, "    {}\n", advice.as_str()),
         None => Ok(()),
@@ -190,6 +186,6 @@ pub fn report_text(
     for report in faults.as_slice().iter().take(most) {
         push_fault(&mut text, state, source, report)?;
     }
-    push_more(&mut text, source.file, faults.len(), most, "")?;
+    push_more(&mut text, source.file, faults.len(), most)?;
     Ok(text)
 }

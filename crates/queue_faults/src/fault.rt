@@ -2,7 +2,7 @@
 
 use queue_script::{CODE_DIGITS, MOST_LEVEL};
 use script_io::LINE_LENGTH;
-use source_faults::{FaultOf, Found, Quoted};
+use shown_bytes::{FaultOf, Found, Quoted};
 use std::fmt;
 
 /// What is wrong with a line of a script.

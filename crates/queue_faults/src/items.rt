@@ -2,7 +2,7 @@
 
 use crate::fault::{Fault, Reason};
 use script_io::LINE_LENGTH;
-use source_faults::{NOT_ASCII, column_not_ascii};
+use shown_bytes::{NOT_ASCII, column_not_ascii};
 
 /// A part of a line, and the column where it begins.
 #[derive(Clone, Copy)]

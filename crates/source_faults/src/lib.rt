@@ -1,19 +1,15 @@
-//! What is wrong with a source of the assembler, in words for a person: worked out from a line, the code of its fault
-//! and, where it is at hand, the source.
+//! What is wrong with a source of the assembler, in words for a person: what the parser says of its first wrong line, or, where
+//! all lines are in the grammar, what their syntax tree shows by the code of the fault.
 #![tactic(auto)]
 
-mod any_fault;
-mod cursor;
-mod fault;
-mod labels;
-mod lines;
-mod located;
+mod explained;
+mod misfits;
+mod names;
 mod of_macro;
-mod operands;
-mod quoted;
-mod statements;
+mod pieces;
+mod reasons;
+mod syntax;
+mod texts;
 mod values;
 
-pub use any_fault::FaultOf;
-pub use located::{Located, explain, explain_in, locate};
-pub use quoted::{Found, NOT_ASCII, Quoted, column_not_ascii};
+pub use explained::{explain, explain_code};

@@ -2,13 +2,12 @@
 
 ghost use Rattle.std.specs.Prelude.{◌≡◌, nat_eq};
 ghost use Rattle.std.specs.List.{list_any};
-ghost use Rattle.std.specs.Cmp.Lexicographic.{pointwise};
 
-use crate::fault::{Fault, Reason};
-use crate::lines::NO_NAME;
-use crate::operands::{BIT_NUMBER, LITERAL_IN_LITERAL, MARK, OPEN_LITERAL, POINTED_NUMBER};
-use crate::statements::{NO_OPERATION, folded};
-use std::str;
+use crate::reasons::{Fault, Reason, has_bit, has_point};
+use crate::texts::behind;
+use mac_text::Wanted;
+use macro_names::Name;
+use macro_operations::{BuiltIn, Pseudo, of_dialect};
 
 /// What is said of such a fault.
 pub const TAKEN_BY_MACRO: &str = "; macro FILE takes it";
@@ -18,16 +17,6 @@ static JOINTS: [u8; 7] = [b'=', b'#', b'*', b'/', b'&', b'!', b'_'];
 
 /// Those that stand around a value.
 static BRACKETS: [u8; 4] = [b'<', b'>', b'"', b'\''];
-
-/// The names of its statements and operations that are none here, six characters of each.
-static NAMES: [&str; 64] = [
-    "OCT", "DEC", "BYTE", "RADIX5", "SQUOZE", "RELOC", "PHASE", "DEPHAS", "LIT", "VAR", "OPDEF",
-    "SYN", "PURGE", "COMMEN", "REMARK", "PAGE", "INTERN", "ENTRY", "SUPPRE", "ASUPPR", "NOSYM",
-    "MLON", "MLOFF", ".CREF", ".XCREF", ".DIREC", "PRINTX", "LIST", "XLIST", "LALL", "SALL",
-    "XALL", "DEFINE", "REPEAT", "IRP", "IRPC", "STOPI", "IFE", "IFN", "IFG", "IFGE", "IFL", "IFLE",
-    "IFDEF", "IFNDEF", "IFIDN", "IFDIF", "IFB", "IFNB", "IF1", "IF2", "Z", "OR", "ORI", "ORM",
-    "ORB", "CLEAR", "CLEARI", "CLEARM", "CLEARB", "JOV", "JCRY", "JCRY0", "JCRY1",
-];
 
 /// Whether a character stands behind a value.
 fn is_joint(character: u8) -> bool
@@ -43,19 +32,12 @@ fn is_bracket(character: u8) -> bool
     BRACKETS.contains(&character)
 }
 
-/// Whether six characters of a name in upper case are one of these.
-fn is_listed(name: &str) -> bool
-    ensures { result ≡ list_any (λ known. pointwise nat_eq known.now name.now) NAMES }
-{
-    NAMES.contains(&name)
-}
-
-/// Whether some bytes are such a name.
+/// Whether some bytes are the name of a statement or an operation that it has beyond the subset and takes.
 fn is_statement(name: &[u8]) -> bool {
-    let (characters, length) = folded(name);
-    match str::from_utf8(&characters[..length]) {
-        Ok(name) => is_listed(name),
-        Err(_) => false,
+    match of_dialect(Name::of(name)) {
+        Some(BuiltIn::Pseudo(Pseudo::Extern | Pseudo::Segments | Pseudo::Universal)) => false,
+        Some(_) => true,
+        None => false,
     }
 }
 
@@ -71,7 +53,7 @@ fn is_joined(text: &[u8]) -> bool {
 /// Whether a line goes on at a column with a sign of a value, or with the second colon of a label.
 fn goes_on(line: &[u8], column: usize) -> bool {
     let start = column.saturating_sub(1);
-    let here = line.get(start..).unwrap_or(&[]);
+    let here = behind(line, start);
     match here.first() {
         Some(b':') => line.get(..start).unwrap_or(&[]).ends_with(b":"),
         Some(first) => is_joined(here) || is_bracket(*first),
@@ -79,38 +61,26 @@ fn goes_on(line: &[u8], column: usize) -> bool {
     }
 }
 
-/// Whether a statement begins at a column of a line.
-fn begins_statement(line: &[u8], column: usize) -> bool {
-    let before = line.get(..column.saturating_sub(1)).unwrap_or(line);
-    matches!(
-        before.trim_ascii_end().last().copied(),
-        None | Some(b':' | b'[')
-    )
-}
-
-/// Whether the sentence of a name or a number is of something that `macro` takes.
-fn is_taken(sentence: &str, line: &[u8], column: usize, text: &[u8]) -> bool {
-    if sentence == NO_OPERATION {
-        let end = column.saturating_sub(1).saturating_add(text.len());
-        let behind = line.get(end..).unwrap_or(&[]);
-        return is_statement(text) || is_joined(behind.trim_ascii_start());
-    }
-    if sentence == NO_NAME {
-        return is_statement(text) && begins_statement(line, column);
-    }
-    sentence == BIT_NUMBER || sentence == POINTED_NUMBER
+/// Whether `macro` takes the name that begins a statement at a column of a line, with what stands behind it.
+fn is_taken(line: &[u8], column: usize, name: &[u8]) -> bool {
+    let end = column.saturating_sub(1).saturating_add(name.len());
+    is_statement(name) || is_joined(behind(line, end).trim_ascii_start())
 }
 
 /// Whether `macro` takes what is wrong with a line: a statement, an assignment, an operator, a character as a number, a
 /// number in a form of its own, or a literal of several lines or with another one in it.
 pub fn is_of_macro(line: &[u8], fault: &Fault<'_>) -> bool {
     match fault.reason {
-        Reason::Said(sentence) => sentence == OPEN_LITERAL || sentence == LITERAL_IN_LITERAL,
-        Reason::Expected(wanted, found) if wanted == MARK => {
+        Reason::Syntax(Wanted::LiteralEnd | Wanted::NoLiteral, _) => true,
+        Reason::Syntax(Wanted::Mark, found) => {
             matches!(found.first().copied(), Some(b'B' | b'b' | b'-'))
         }
-        Reason::Expected(_, _) => goes_on(line, fault.column),
-        Reason::Is(text, sentence) => is_taken(sentence, line, fault.column, text),
-        Reason::Misfit(_, _) => false,
+        Reason::Syntax(Wanted::Operation, name) => is_taken(line, fault.column, name),
+        Reason::Syntax(Wanted::Digits(_), word) => has_bit(word) || has_point(word),
+        Reason::Syntax(Wanted::Ascii | Wanted::TextEnd | Wanted::Words, _) => false,
+        Reason::Syntax(Wanted::Characters | Wanted::Allowed, _) => false,
+        Reason::Syntax(_, _) => goes_on(line, fault.column),
+        Reason::Unknown(name, true) => is_statement(name),
+        _ => false,
     }
 }

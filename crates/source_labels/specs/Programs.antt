@@ -11,13 +11,13 @@ use Rattle.source_labels.specs.declared.sources.Tried.TheVariants as variants
 abbrev pub AssemblesTo : {E : Type 0} → Result Tried E → Result assembly.Assembled Fault → Type 0
 AssemblesTo (Ok (variants.Program program)) outcome =
     outcome ≡ Ok (record { words = program.image.words.items; start = program.image.start })
-AssemblesTo (Ok (variants.Fault fault)) outcome = IsErr outcome
+AssemblesTo (Ok variants.Refused) outcome = IsErr outcome
 AssemblesTo (Err e) outcome = Unit {0}
 
 -- no other source was written in place of that of the file
 abbrev pub KeepsOwn : Tried → Type 0
 KeepsOwn (variants.Program program) = program.written ≡ None
-KeepsOwn (variants.Fault fault) = Unit {0}
+KeepsOwn variants.Refused = Unit {0}
 
 -- the bytes of a text that was written, or else these
 abbrev pub written_or : {A : Type 0} → List ℕ → Option (Vec ℕ A) → List ℕ

@@ -1,10 +1,8 @@
 //! Advice on a faulty line: what to write instead.
 
-use crate::faults::Fault;
-use crate::lines::{line_at, split_label, statement_at, word_of};
-use crate::near_names::{near_label, near_operation};
+use crate::lines::{line_at, split_label};
+use crate::near_names::near_operation;
 use crate::not_here::INSTEAD;
-use mac_asm::AsmCode;
 use mac_text::folded;
 use std::alloc::{AllocError, Global};
 use std::str;
@@ -19,14 +17,6 @@ fn instead_of(word: &[u8]) -> Option<&'static str> {
         }
     }
     None
-}
-
-/// A statement without its comment; a semicolon in a text ends it too.
-fn without_comment(statement: &[u8]) -> &[u8] {
-    match statement.iter().position(|c| *c == b';') {
-        Some(end) => &statement[..end],
-        None => statement,
-    }
 }
 
 /// Advice on a word that is no operation, if there is any: what to write instead, or the operation that was meant.
@@ -79,34 +69,4 @@ pub fn advice_on_label(
         rest = behind;
     }
     Ok(None)
-}
-
-/// Advice on a line with a name that is not defined.
-fn advice_on_name(
-    alloc: Global,
-    source: &[u8],
-    statement: &[u8],
-) -> Result<Option<String>, AllocError> {
-    let advice = advice_on_word(alloc, word_of(statement))?;
-    if advice.is_some() {
-        return Ok(advice);
-    }
-    match near_label(source, without_comment(statement)) {
-        Some(label) => {
-            let name = str::from_utf8(label).unwrap_or("another label");
-            Ok(Some(format!(in alloc; "did you mean {name}?")?))
-        }
-        None => Ok(None),
-    }
-}
-
-/// Advice on a faulty line, if there is any.
-pub fn advice_of(alloc: Global, source: &[u8], fault: Fault) -> Result<Option<String>, AllocError> {
-    let statement = statement_at(source, fault.line);
-    match fault.code {
-        AsmCode::Syntax => advice_on_word(alloc, word_of(statement)),
-        AsmCode::UnknownName => advice_on_name(alloc, source, statement),
-        AsmCode::DefinedTwice => advice_on_label(alloc, source, fault.line),
-        _ => Ok(None),
-    }
 }

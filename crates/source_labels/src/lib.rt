@@ -1,5 +1,5 @@
-//! Assembles sources for a person: with their labels, the addresses of their literals, and what is wrong with a
-//! source that is refused.
+//! Assembles sources for a person: with their labels and the addresses of their literals; and how what is wrong with one is
+//! told.
 #![tactic(auto)]
 
 mod advice;
@@ -14,11 +14,8 @@ mod spots;
 mod warnings;
 
 pub use advice::{advice_on_label, advice_on_word};
-pub use faults::{
-    ErrorPlace, Fault, MOST_REPORTED, column_of, faults_of, faults_text, push_error, push_more,
-};
+pub use faults::{ErrorPlace, MOST_REPORTED, push_error, push_more};
 pub use labels::{Label, nearest};
-pub use lines::{is_assignment, statement_at, word_of};
 pub use near_names::are_near;
 pub use places::{Literals, NamedNumber, Places};
 pub use sources::{Assembled, Program, Source, Tried, assemble_source, places_in};

@@ -20,23 +20,13 @@ pub fn line_at(source: &[u8], number: usize) -> &[u8] {
     line.strip_suffix(b"\r".as_slice()).unwrap_or(line)
 }
 
-/// The position where the line of this number begins, counted from 1; the source's length where there are fewer
-/// lines.
-pub fn start_of_line(source: &[u8], number: usize) -> usize {
-    let mut rest = source;
-    for _ in 1..number {
-        rest = split_line(rest).1;
-    }
-    source.len().saturating_sub(rest.len())
-}
-
 /// Whether a character may stand in a name or a number.
 fn is_name_character(c: u8) -> bool {
     c.is_ascii_alphanumeric() || c == b'.' || c == b'$' || c == b'%'
 }
 
 /// A text without the blanks at its beginning.
-pub fn without_blanks(text: &[u8]) -> &[u8] {
+fn without_blanks(text: &[u8]) -> &[u8] {
     for (i, c) in text.iter().enumerate() {
         if *c != b' ' && *c != b'\t' && *c != 0o14 {
             return &text[i..];
@@ -46,23 +36,13 @@ pub fn without_blanks(text: &[u8]) -> &[u8] {
 }
 
 /// The word that a text begins with: letters, digits, points, `$` and `%`. Empty where it begins with none of these.
-pub fn word_of(text: &[u8]) -> &[u8] {
+fn word_of(text: &[u8]) -> &[u8] {
     for (i, c) in text.iter().enumerate() {
         if !is_name_character(*c) {
             return &text[..i];
         }
     }
     text
-}
-
-/// What stands behind the word that a text begins with.
-pub fn behind_word(text: &[u8]) -> &[u8] {
-    for (i, c) in text.iter().enumerate() {
-        if !is_name_character(*c) {
-            return &text[i..];
-        }
-    }
-    &[]
 }
 
 /// The first label of a line, and what stands behind its colon; None where the line begins with no label.
@@ -73,26 +53,4 @@ pub fn split_label(line: &[u8]) -> Option<(&[u8], &[u8])> {
         Some(c) if *c == b':' && !word.is_empty() => Some((word, &text[word.len() + 1..])),
         _ => None,
     }
-}
-
-/// What stands behind the labels of a line.
-pub fn behind_labels(line: &[u8]) -> &[u8] {
-    let mut rest = line;
-    for _ in 0..line.len() {
-        match split_label(rest) {
-            Some((_, behind)) => rest = behind,
-            None => return rest,
-        }
-    }
-    rest
-}
-
-/// The statement of the line of this number, behind its labels and blanks.
-pub fn statement_at(source: &[u8], number: usize) -> &[u8] {
-    without_blanks(behind_labels(line_at(source, number)))
-}
-
-/// Whether a statement gives a name a number, as MACRO-10 writes it.
-pub fn is_assignment(statement: &[u8]) -> bool {
-    matches!(without_blanks(behind_word(statement)), [b'=', ..])
 }

@@ -1,6 +1,5 @@
 //! Names that a person may have meant by one that is not defined.
 
-use crate::lines::{behind_word, line_at, split_label, word_of};
 use ka_isa::{mnemonic, named};
 use mac_text::folded;
 use std::alloc::{AllocError, Global};
@@ -89,39 +88,4 @@ pub fn near_operation(alloc: Global, word: &[u8]) -> Result<Option<String>, Allo
         }
     }
     Ok(None)
-}
-
-/// The label of a source that may have been meant by a word.
-fn label_near<'s>(source: &'s [u8], lines: usize, word: &[u8]) -> Option<&'s [u8]> {
-    let wanted = folded(word);
-    for number in 1..=lines {
-        if let Some((label, _)) = split_label(line_at(source, number)) {
-            if are_near(folded(label).as_slice(), wanted.as_slice()) {
-                return Some(label);
-            }
-        }
-    }
-    None
-}
-
-/// The label of a source that may have been meant by a word of a statement: the first word that has one.
-pub fn near_label<'s>(source: &'s [u8], statement: &[u8]) -> Option<&'s [u8]> {
-    let lines = source.iter().filter(|c| **c == b'\n').count();
-    let mut rest = statement;
-    for _ in 0..statement.len() {
-        let word = word_of(rest);
-        if word.is_empty() {
-            match rest {
-                [] => return None,
-                [_, behind @ ..] => rest = behind,
-            }
-            continue;
-        }
-        let label = label_near(source, lines, word);
-        if label.is_some() {
-            return label;
-        }
-        rest = behind_word(rest);
-    }
-    None
 }

@@ -3,7 +3,6 @@ ghost use Rattle.std.specs.Prelude.{◌≡◌, None, IfOk};
 ghost use Rattle.mac_asm.specs.Outcome.{outcome_of};
 ghost use Rattle.source_labels.specs.Programs.{AssemblesTo, source_for, KeepsOwn};
 
-use crate::faults::Fault;
 use crate::places::{Places, places_of};
 use mac_asm::{AsmError, assemble};
 use mac_layout::lay_out;
@@ -61,8 +60,8 @@ pub enum Assembled<'a> {
 pub enum Tried<'a> {
     /// A program.
     Program(Program<'a>),
-    /// The fault that it reports.
-    Fault(Fault),
+    /// It is not in the subset, or wrong.
+    Refused,
 }
 
 /// The labels and literals of a source of which this is the image. It is in the grammar and laid out, as it was
@@ -94,7 +93,7 @@ pub fn assemble_source<'a>(alloc: Global, source: &Source<'a>) -> Result<Tried<'
                 typed: Vec::new(alloc),
             }))
         }
-        Err(AsmError::Line { line, code }) => Ok(Tried::Fault(Fault { line, code })),
+        Err(AsmError::Line { .. }) => Ok(Tried::Refused),
         Err(AsmError::Memory) => Err(AllocError),
     }
 }

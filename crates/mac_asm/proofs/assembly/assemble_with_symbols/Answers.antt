@@ -12,11 +12,11 @@ pub returns-in_err-program-clause-image : goal.returns-in_err-program-clause-ima
 returns-in_err-program-clause-image c =
     let error = err_from_is_err_and c.from_residual.result c.from_residual.ensures.1 in
     subst (λ r. Assembles (image_in r) (outcome_of c.args.source.now)) (sym (error.1 ∙ ap Err error.2))
-    (not_read c.in_err-program.field-0.0 c.args.source.now c.in_err-program.ensures)
+    (not_read c.in_err-program.field-0.0 c.args.source.now c.in_err-program.ensures.program)
 
 pub returns-then-not-has_end-clause-image : goal.returns-then-not-has_end-clause-image
 returns-then-not-has_end-clause-image c =
-    without_end c.args.source.now c.as_slice-lines.result.now (c.in_ok-program.ensures ∙ ap Ok (sym c.as_slice-lines.ensures))
+    without_end c.args.source.now c.as_slice-lines.result.now (c.in_ok-program.ensures.program ∙ ap Ok (sym c.as_slice-lines.ensures))
     (sym c.has_end.ensures ∙ c.if-not-has_end.true)
 
 pub returns-in_err-layout-clause-image : goal.returns-in_err-layout-clause-image
@@ -24,7 +24,7 @@ returns-in_err-layout-clause-image c =
     let error = err_from_is_err_and c.from_residual-in_err-layout.result c.from_residual-in_err-layout.ensures.1 in
     subst (λ r. Assembles (image_in r) (outcome_of c.args.source.now)) (sym (error.1 ∙ ap Err error.2))
     (not_laid_out c.in_err-layout.field-0.0 c.args.source.now c.as_slice-lines.result.now
-    (c.in_ok-program.ensures ∙ ap Ok (sym c.as_slice-lines.ensures)) (sym c.has_end.ensures ∙ c.if-not-has_end.false)
+    (c.in_ok-program.ensures.program ∙ ap Ok (sym c.as_slice-lines.ensures)) (sym c.has_end.ensures ∙ c.if-not-has_end.false)
     c.in_err-layout.ensures)
 
 pub returns-in_err-image-clause-image : goal.returns-in_err-image-clause-image
@@ -34,7 +34,7 @@ returns-in_err-image-clause-image c =
     let error = err_from_is_err_and c.from_residual-in_err-image.result c.from_residual-in_err-image.ensures.1 in
     subst (λ r. Assembles (image_in r) (outcome_of c.args.source.now)) (sym (error.1 ∙ ap Err error.2))
     (told (Err c.in_err-image.field-0.0) c.args.source.now lines layout
-    (c.in_ok-program.ensures ∙ ap Ok (sym c.as_slice-lines.ensures)) (sym c.has_end.ensures ∙ c.if-not-has_end.false)
+    (c.in_ok-program.ensures.program ∙ ap Ok (sym c.as_slice-lines.ensures)) (sym c.has_end.ensures ∙ c.if-not-has_end.false)
     c.in_ok-layout.ensures
     (subst
     (λ literals. Assembles (Err c.in_err-image.field-0.0)
@@ -49,7 +49,7 @@ returns-clause-image c =
     let layout = c.in_ok-layout.layout in
     let lines = c.as_slice-lines.result.now in
     let image = c.in_ok-image.image in
-    told (Ok image) c.args.source.now lines layout (c.in_ok-program.ensures ∙ ap Ok (sym c.as_slice-lines.ensures))
+    told (Ok image) c.args.source.now lines layout (c.in_ok-program.ensures.program ∙ ap Ok (sym c.as_slice-lines.ensures))
     (sym c.has_end.ensures ∙ c.if-not-has_end.false) c.in_ok-layout.ensures
     (subst (λ literals. Assembles (Ok image) (outcome_placed (lines_with layout.labels.entries layout.addresses.items literals lines))) c.as_slice-2.ensures.value
     (subst
@@ -59,4 +59,4 @@ returns-clause-image c =
 pub returns-clause-symbols : goal.returns-clause-symbols
 returns-clause-symbols c =
     symbols_are c.args.source.now c.as_slice-lines.result.now c.in_ok-layout.layout
-    (c.in_ok-program.ensures ∙ ap Ok (sym c.as_slice-lines.ensures)) c.in_ok-layout.ensures
+    (c.in_ok-program.ensures.program ∙ ap Ok (sym c.as_slice-lines.ensures)) c.in_ok-layout.ensures

@@ -1,9 +1,9 @@
-use Rattle.std.proofs.Common.{◌≡◌, ◌+◌, Err, Ok, length, ap, sym, ◌∙◌, arith}
+use Rattle.std.proofs.Common.{◌≡◌, ◌+◌, ◌-◌, ◌≤◌, [], Err, Ok, length, drop, get_or, refl, ap, subst, sym, ◌∙◌, arith}
 use Rattle.std.specs.Prelude.{slice_set}
 use Rattle.std.proofs.lemmas.Bool.{eqb-true}
 use Rattle.std.specs.Str.Lines.{lines}
 use Rattle.mac_text.proofs.SourceLemmas.{source_begins, source_goes_on, source_ends, source_fails, source_done}
-use Rattle.mac_text.proofs.SourceLemmas.{lines_of_nothing, one_longer, placed, there, with_lines}
+use Rattle.mac_text.proofs.SourceLemmas.{lines_of_nothing, one_longer, placed, there, line_there, lines_behind, with_lines}
 use Rattle.mac_text.specs.Lines.{is_ascii, is_end, lines_from, radix_after}
 use Rattle.mac_text.proofs.source.parse.Goals as goal
 
@@ -13,19 +13,29 @@ loop-rest-init c = (
   omega (arith, ap length c.new-lines.ensures.items),
   (λ h. sym c.is_ascii-is_known_ascii.ensures ∙ h),
   source_begins c.args.source.now c.new-lines.result.items c.new-lines.ensures.items,
+  ap (λ l. drop (length l) (lines c.args.source.now)) c.new-lines.ensures.items,
 )
 
-pub returns-in-Err-Syntax : goal.returns-in-Err-Syntax
-returns-in-Err-Syntax c =
+pub returns-in-Err-Syntax-clause-program : goal.returns-in-Err-Syntax-clause-program
+returns-in-Err-Syntax-clause-program c =
     let front = c.loop-rest.lines.items in
     let at : c.len-at.result ≡ length c.loop-rest.lines.items = omega arith in
     let is = rw c.in-Err-Syntax.field-0-is at c.in-Err-Syntax.ensures in
     source_fails front c.loop-rest.radix (length front + 1) (lines c.loop-rest.rest.now) (lines c.split_line.result.1.now)
     c.split_line.result.0.now _ c.split_line.ensures.line is c.loop-rest.invariant.3
     ∙ ap (λ n. Err (n + 1)) (sym at)
+    ∙ ap Err (sym c.fault.ensures.line)
 
-pub returns-then-is_end : goal.returns-then-is_end
-returns-then-is_end c =
+pub returns-in-Err-Syntax-clause-position : goal.returns-in-Err-Syntax-clause-position
+returns-in-Err-Syntax-clause-position c =
+    let front = c.loop-rest.lines.items in
+    let at : c.fault.result.line - 1 ≡ length front = omega (arith, c.fault.ensures.line) in
+    let text = line_there (lines c.args.source.now) (length front) c.split_line.result.0.now (lines c.split_line.result.1.now)
+    (c.loop-rest.invariant.4 ∙ c.split_line.ensures.line) in
+    rw (at, text) (omega (arith, c.fault.ensures.within))
+
+pub returns-then-is_end-clause-program : goal.returns-then-is_end-clause-program
+returns-then-is_end-clause-program c =
     let front = c.loop-rest.lines.items in
     let line = c.read_line.new.out in
     let empty = c.in_ok-add_line.ensures in
@@ -59,10 +69,12 @@ loop-rest-preserved c =
       (λ h. c.split_line.ensures.back is_ascii (c.loop-rest.invariant.2 h)),
       ap (λ p. with_lines p (lines_from c.radix_after-radix.result (length now + 1) (lines c.split_line.result.1.now))) all
           ∙ goes_on,
+      lines_behind (lines c.args.source.now) (length front) (length now) c.split_line.result.0.now (lines c.split_line.result.1.now)
+          longer (c.loop-rest.invariant.4 ∙ c.split_line.ensures.line),
     )
 
-pub returns : goal.returns
-returns c =
+pub returns-clause-program : goal.returns-clause-program
+returns-clause-program c =
     source_done c.loop-rest.lines.items c.loop-rest.radix (length c.loop-rest.lines.items + 1) (lines c.loop-rest.rest.now) _
     (lines_of_nothing c.loop-rest.rest.now (eqb-true _ _ (sym c.loop-rest-test.ensures))) c.loop-rest.invariant.3
     ∙ ap Ok (sym c.of-2.ensures)
