@@ -1,7 +1,29 @@
-//! The program: a session of the debugger on the sources that its arguments name.
+//! The debugger: a session on a machine, driven by lines in the manner of DDT, on the sources that its arguments name.
 #![tactic(auto)]
 
-use ddt_program::{ddt, not_begun};
+mod arguments;
+mod changes;
+mod dialogue;
+mod examining;
+mod file_lines;
+mod files;
+mod going_back;
+mod histories;
+mod host;
+mod loading;
+mod obey;
+mod options;
+mod program;
+mod recording;
+mod run_ends;
+mod runs;
+mod searches;
+mod session;
+mod stop_commands;
+mod tables;
+mod texts;
+
+use program::{ddt, not_begun};
 use program_shell::{Answers, LineReader, Terminal, arguments_of};
 use script_io::{HostIn, HostOut};
 use std::io::{ErrorKind, IsTerminal};

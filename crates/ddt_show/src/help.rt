@@ -42,8 +42,8 @@ static COMMANDS: [&str; 42] = [
     ".BACK TO a       to before the last step for which the open job stood at a",
     ".BACK WRITE a    to before the step that last changed the word at a",
     ".FORWARD         to where .BACK was typed",
-    ".SAVE file       writes the lines so far, as a script; .DO file obeys the lines of a file",
-    ".RECORD file     writes what has happened as a script of `lockmon run`, where nothing was changed by hand",
+    ".SAVE file.ddt   writes the lines so far, as a script; .DO file obeys the lines of a file",
+    ".RECORD file.run writes what has happened as a script of `lockmon run`, where nothing was changed by hand",
     "; text           a remark",
     ".QUIT            ends the session; .HELP word tells of one command",
 ];

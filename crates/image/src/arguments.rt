@@ -1,9 +1,11 @@
 //! The command line.
+ghost use Rattle.std.specs.Prelude.{◌≡◌, IfOk};
+ghost use Rattle.image.specs.Outputs.{HasOutput, output_end};
 
 use clap::{Arg, ArgMatches, Command};
 use image_files::{Packing, packing_named};
 use mac_source::Shown;
-use program_shell::{Refusal, Wrong, make_flag, make_top, matches_of, refused};
+use program_shell::{NameEnd, Refusal, Wrong, make_flag, make_top, matches_of, output_in, refused};
 use std::alloc::{AllocError, Global};
 
 /// A command of the program.
@@ -173,18 +175,34 @@ fn command_in(name: &str, given: &ArgMatches<'_>) -> Option<ImageCommand> {
     }
 }
 
+/// How the name of a command's output ends: as that of a source only where the output is one.
+fn output_end(command: ImageCommand) -> NameEnd
+    ensures { result ≡ output_end command }
+{
+    match command {
+        ImageCommand::Source { .. } => NameEnd::NoScript,
+        ImageCommand::Words { .. } | ImageCommand::Save { .. } | ImageCommand::List { .. } => {
+            NameEnd::NoSource
+        }
+    }
+}
+
 /// What the matches ask for.
-fn options_in<'a>(matches: &ArgMatches<'a>) -> Result<Options<'a>, Wrong<'a>> {
+fn options_in<'a>(matches: &ArgMatches<'a>) -> Result<Options<'a>, Wrong<'a>>
+    ensures { IfOk result HasOutput }
+{
     let Some((name, given)) = matches.subcommand() else {
         return Err(Wrong::Other(WRONG_FORM));
     };
     let Some(command) = command_in(name, given) else {
         return Err(Wrong::Other(WRONG_FORM));
     };
+    let input = given.get_str("FILE");
+    let output = output_in(given, "output", output_end(command), input.as_slice())?;
     Ok(Options {
         command,
-        input: given.get_str("FILE"),
-        output: given.get_str("output"),
+        input,
+        output,
     })
 }
 
@@ -193,7 +211,9 @@ fn read_by<'a>(
     alloc: Global,
     command: &mut Command<'a>,
     arguments: &'a [String],
-) -> Result<Options<'a>, Refusal> {
+) -> Result<Options<'a>, Refusal>
+    ensures { IfOk result HasOutput }
+{
     let matches = matches_of(command, arguments)?;
     match options_in(&matches) {
         Ok(options) => Ok(options),
@@ -201,8 +221,11 @@ fn read_by<'a>(
     }
 }
 
-/// What the arguments, which begin with the program's name, ask for.
-pub fn read_arguments<'a>(alloc: Global, arguments: &'a [String]) -> Result<Options<'a>, Refusal> {
+/// What the arguments, which begin with the program's name, ask for. The file that they name for the output is not the input, and
+/// its name is that of no source, but for that of a source.
+pub fn read_arguments<'a>(alloc: Global, arguments: &'a [String]) -> Result<Options<'a>, Refusal>
+    ensures { IfOk result HasOutput }
+{
     match make_command(alloc) {
         Ok(mut command) => read_by(alloc, &mut command, arguments),
         Err(_) => Err(Refusal::Memory),

@@ -10,7 +10,7 @@ pub fn reason_of(alloc: Global, ending: Ending) -> Result<Vec<u8>, AllocError> {
         Ending::Done => Ok(Vec::new(alloc)),
         Ending::File { fault, other } => fault_text(alloc, "image", fault, other),
         Ending::Source { line, code } => {
-            let reason = source_faults::explain(alloc, code, b"")?;
+            let reason = source_faults::explain_code(alloc, code)?;
             let text = format!(in alloc; "image: line {line}: {reason}\n")?;
             Vec::from_slice(alloc, text.as_str().as_bytes())
         }

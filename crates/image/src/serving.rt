@@ -4,7 +4,7 @@ ghost use Rattle.std.specs.Prelude.{◌≡◌, ◌≤◌, ◌^◌, false};
 use crate::arguments::{ImageCommand, Options};
 use crate::kept_output::KeptOutput;
 use image_service::{Ending, serve_list, serve_save, serve_source, serve_words};
-use program_shell::{Failure, file_error_text};
+use program_shell::{Failure, file_error_text, write_whole};
 use script_io::{ByteIn, ByteOut, HostIn, HostOut, ServeFailure, write_all};
 use std::alloc::{AllocError, Global};
 use std::{fs, io};
@@ -83,7 +83,7 @@ fn write_kept(rt: &HostRuntime, output: Option<&str>, kept: &[u8]) -> Result<(),
             Err(_) => Err(Stop::Failed(Failure::Write)),
         };
     };
-    match fs::write(rt, file, kept) {
+    match write_whole(rt, file, kept) {
         Ok(()) => Ok(()),
         Err(error) => Err(stop_at(rt.alloc(), file, error)),
     }

@@ -1,10 +1,19 @@
-//! The program: reads a script from a file or standard input, writes its picture to standard output, and reports to
-//! standard error what is wrong with a line that is refused.
+//! The program: reads a script from a file or standard input, writes its picture, or with reasons its answers, to standard
+//! output, and reports to standard error what is wrong with a line that is refused.
 #![tactic(auto)]
 
-use lockview_program::{FAILURE_LINES, program};
+mod arguments;
+mod axis;
+mod refusals;
+mod run_course;
+mod run_lines;
+mod run_reasons;
+mod serving;
+mod text;
+
 use program_shell::arguments_or_status;
 use script_io::{HostIn, HostOut};
+use serving::{FAILURE_LINES, program};
 use std::process::ExitCode;
 
 fn main(rt: HostRuntime) -> ExitCode {

@@ -2,9 +2,12 @@
 //! wanted.
 #![tactic(auto)]
 
-use macro_program::{FAILURE_LINES, program};
+mod arguments;
+mod serving;
+
 use program_shell::arguments_or_status;
 use script_io::{HostIn, HostOut};
+use serving::{FAILURE_LINES, program};
 use std::process::ExitCode;
 
 fn main(rt: HostRuntime) -> ExitCode {

@@ -1,7 +1,9 @@
 //! The arguments of a command line, and what they give.
 ghost use Rattle.std.specs.Prelude.{◌<◌, ◌≤◌, ◌^◌, IfOk, IfSome};
+ghost use Rattle.program_shell.specs.Outputs.{IsOutput};
 ghost use Rattle.word36.specs.declared.sizes.TheConstants.{MOST_BLOCKS};
 
+use crate::outputs::{NameEnd, output_fault};
 use crate::refusal::{Refusal, Wrong, refusal_of};
 use clap::{ArgMatches, Command};
 use script_io::number;
@@ -47,6 +49,24 @@ pub fn number_of<'a>(
     match number(10, most, written.as_bytes()) {
         Some(number) if number > 0 => Ok(Some(number)),
         _ => Err(Wrong::Number(option, written, most)),
+    }
+}
+
+/// The file that an option names for an output, if it is given: its name ends as it has to, and is that of no input.
+pub fn output_in<'a>(
+    matches: &ArgMatches<'a>,
+    option: &'static str,
+    end: NameEnd,
+    inputs: &[&str],
+) -> Result<Option<&'a str>, Wrong<'a>>
+    ensures { IfOk result (λ given. IsOutput end given inputs.now) }
+{
+    let Some(file) = matches.get_str(option) else {
+        return Ok(None);
+    };
+    match output_fault(end, file, inputs) {
+        Some(fault) => Err(Wrong::Output(option, file, end, fault)),
+        None => Ok(Some(file)),
     }
 }
 

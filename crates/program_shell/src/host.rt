@@ -34,6 +34,6 @@ pub trait Host {
     /// The bytes of a file.
     fn read_file(&self, file: &str) -> io::Result<Vec<u8>>;
 
-    /// Writes bytes to a file, in place of what it had.
+    /// Writes bytes to a file, in place of what it had: all of them, or none where that fails.
     fn write_file(&mut self, file: &str, bytes: &[u8]) -> io::Result<()>;
 }

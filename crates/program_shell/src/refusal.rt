@@ -2,6 +2,7 @@
 ghost use Rattle.clap.specs.Words.{kind_of};
 ghost use Rattle.program_shell.specs.Refusals.{IsKind};
 
+use crate::outputs::{NameEnd, OutputFault};
 use clap::error::ErrorKind;
 use clap::{Command, Error};
 use shown_bytes::shown_lines;
@@ -24,8 +25,8 @@ pub enum Wrong<'a> {
     Memory,
     /// The number of an option, as it is written, is not in its range, which ends with this one.
     Number(&'static str, &'a str, u64),
-    /// The name of an option's file, as it is written, does not end so.
-    Ending(&'static str, &'a str, &'static str),
+    /// The file of an option, whose name is written so and has to end so, is none that the program may write.
+    Output(&'static str, &'a str, NameEnd, OutputFault),
     /// There are more files than jobs.
     Files,
     /// What these words say.
@@ -58,9 +59,10 @@ fn wrong_text(alloc: Global, wrong: Wrong<'_>) -> Result<String, AllocError> {
                 "invalid value '{written}' for '--{option} <N>': a number from 1 to {most} is wanted"
             )
         }
-        Wrong::Ending(option, written, ending) => format!(in alloc;
-            "invalid value '{written}' for '--{option} <FILE{ending}>': a name that ends in {ending} is wanted"
-        ),
+        Wrong::Output(option, written, end, fault) => {
+            let end = end.characters();
+            format!(in alloc; "invalid value '{written}' for '--{option} <FILE{end}>': {fault}")
+        }
         Wrong::Files => format!(in alloc;
             "a machine has at most {JOBS} jobs, and there are more files"
         ),

@@ -4,6 +4,7 @@ use crate::answers::Answers;
 use crate::failure::Failure;
 use crate::host::{Host, Stream};
 use crate::line_reader::{LineReader, NextLine};
+use crate::whole_file::write_whole;
 use script_io::{Failed, HostIn, HostOut, StdReader, StdWriter};
 use std::fs;
 use std::io::{self, Stderr, Stdin, Stdout};
@@ -52,6 +53,6 @@ impl Host for Terminal<'_> {
     }
 
     fn write_file(&mut self, file: &str, bytes: &[u8]) -> io::Result<()> {
-        fs::write(self.rt, file, bytes)
+        write_whole(self.rt, file, bytes)
     }
 }

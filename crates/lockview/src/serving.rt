@@ -1,0 +1,229 @@
+//! The whole program over any ports.
+ghost use Rattle.std.specs.Prelude.{◌≡◌, false, IfOk};
+ghost use Rattle.program_shell.specs.Reports.{WritesOnlyWhenDone};
+
+use crate::arguments::{Form, Options, read_arguments};
+use crate::run_course::draw_run_script;
+use crate::run_reasons::explain_run_script;
+use crate::text::say_picture;
+use fault_text::{NO_ENDASM, Refused, explain};
+use lock_bars::{MOST_LINES, ScriptError, ScriptLines, SourceFault, draw_script};
+use lock_svg::{Along, AsSvg};
+use program_shell::{
+    FAILED, Failure, FailureLines, PendingText, REFUSED, USAGE, read_file, read_input,
+    refuse_arguments, report_failure, report_to, write_output,
+};
+use script_io::{ByteIn, ByteOut, LINE_LENGTH};
+use script_reasons::explain_script;
+use std::alloc::Global;
+use std::convert::AsStr;
+use std::rt::Files;
+
+/// The lines by which the program reports a failure.
+pub const FAILURE_LINES: FailureLines = FailureLines {
+    read: b"lockview: read\n",
+    write: b"lockview: write\n",
+    memory: b"lockview: memory\n",
+};
+
+/// How many bytes of a script are read, at least: more than 10,000 lines of 256 characters have, with CR and LF, so
+/// that a longer script has a line too many, or one that is too long, among these.
+const MOST_BYTES: usize = (MOST_LINES + 1) * (LINE_LENGTH + 2);
+
+/// Adds the picture of a script.
+fn say_drawing(
+    alloc: Global,
+    text: &mut PendingText,
+    options: &Options,
+    script: &[u8],
+) -> Result<(), ScriptError> {
+    let drawing = if options.run {
+        draw_run_script(alloc, script, options.at)?
+    } else {
+        draw_script(alloc, script, options.at)?
+    };
+    if options.form == Form::Text {
+        say_picture(text, &drawing, script);
+    } else {
+        let svg = AsSvg {
+            drawing: &drawing,
+            along: Along::Script,
+            script,
+        };
+        text.say_made(format!(in alloc; "{svg}"));
+    }
+    Ok(())
+}
+
+/// Adds what the options ask for of a script.
+fn say_script(
+    alloc: Global,
+    text: &mut PendingText,
+    options: &Options,
+    script: &[u8],
+) -> Result<(), ScriptError> {
+    if options.form != Form::Explained {
+        say_drawing(alloc, text, options, script)
+    } else if options.run {
+        explain_run_script(alloc, text, script)
+    } else {
+        explain_script(alloc, text, script)
+    }
+}
+
+/// The line of this number, counted from 1, without its line end: a CR belongs to that only before an LF. An empty
+/// one where there are fewer.
+fn line_at(script: &[u8], number: usize) -> &[u8] {
+    let mut lines = ScriptLines::of(script);
+    for _ in 1..number {
+        let _ = lines.next();
+    }
+    match lines.next() {
+        Some(line) => line,
+        None => b"",
+    }
+}
+
+/// Adds what is wrong with a line of a script.
+fn say_line(text: &mut PendingText, options: &Options, script: &[u8], number: usize) {
+    let language = if options.run {
+        Refused::Run
+    } else {
+        Refused::Queue
+    };
+    text.say_number("line ", number as u64, ": ");
+    text.say_made(explain(text.alloc, language, line_at(script, number)));
+}
+
+/// Adds what is wrong with a line of a source.
+fn say_source(text: &mut PendingText, script: &[u8], fault: SourceFault) {
+    let whole = fault.begins.saturating_add(fault.line);
+    text.say_number("line ", whole as u64, "");
+    text.say_number(", line ", fault.line as u64, " of its source: ");
+    text.say_made(source_faults::explain(
+        text.alloc,
+        fault.code,
+        fault.begins as u128,
+        fault.line,
+        script,
+    ));
+}
+
+/// Adds why a script is not drawn, in a line.
+fn say_fault(text: &mut PendingText, options: &Options, script: &[u8], error: ScriptError) {
+    text.say("lockview: ");
+    match error {
+        ScriptError::Memory => text.fail(),
+        ScriptError::Line(number) => say_line(text, options, script, number),
+        ScriptError::Source(fault) => say_source(text, script, fault),
+        ScriptError::NoEnd(lines) => {
+            text.say_number("line ", lines.saturating_add(1) as u64, ": ");
+            text.say(NO_ENDASM);
+        }
+        ScriptError::TooLong => {
+            text.say_number("the script has more than ", MOST_LINES as u64, " lines");
+        }
+        ScriptError::Short(lines) => {
+            text.say_number("the script ends at line ", lines as u64, "");
+            text.say(", before the line of --at");
+        }
+    }
+    text.end_line();
+}
+
+fn status_of(error: ScriptError) -> u8 {
+    match error {
+        ScriptError::Memory => FAILED,
+        ScriptError::Line(_)
+        | ScriptError::Source(_)
+        | ScriptError::NoEnd(_)
+        | ScriptError::TooLong => REFUSED,
+        ScriptError::Short(_) => USAGE,
+    }
+}
+
+/// The script of the file, if one is named, or of the reader; or the exit status where it cannot be read, which is
+/// reported.
+fn read_script<F: Files + AllocGlobal, R: ByteIn, E: ByteOut>(
+    rt: &F,
+    file: &Option<String>,
+    reader: &mut R,
+    errors: &mut E,
+) -> Result<Vec<u8>, u8>
+    requires reader_sound { R.has_failed reader.old ≡ false }
+    requires errors_sound { E.has_failed errors.old ≡ false }
+    ensures { IfOk result (λ _. E.has_failed errors.new ≡ false) }
+{
+    match file {
+        Some(file) => read_file(rt, "lockview: ", file.as_str(), &FAILURE_LINES, errors),
+        None => read_input(rt.alloc(), reader, MOST_BYTES, &FAILURE_LINES, errors),
+    }
+}
+
+/// Writes what the options ask for of a script; gives the exit status.
+fn answer<W: ByteOut, E: ByteOut>(
+    alloc: Global,
+    options: &Options,
+    script: &[u8],
+    writer: &mut W,
+    errors: &mut E,
+) -> u8
+    requires writer_sound { W.has_failed writer.old ≡ false }
+    requires errors_sound { E.has_failed errors.old ≡ false }
+    ensures silent { WritesOnlyWhenDone (W.has_failed writer.new) (W.written writer.old) (W.written writer.new) result }
+{
+    let mut text = PendingText::new(alloc);
+    match say_script(alloc, &mut text, options, script) {
+        Ok(()) if text.is_whole() => write_output(writer, text.as_bytes(), &FAILURE_LINES, errors),
+        Ok(()) => report_failure(errors, &FAILURE_LINES, Failure::Memory),
+        Err(error) => refuse_script(alloc, options, script, error, errors),
+    }
+}
+
+/// Reports why a script is not drawn, and gives the exit status.
+fn refuse_script<E: ByteOut>(
+    alloc: Global,
+    options: &Options,
+    script: &[u8],
+    error: ScriptError,
+    errors: &mut E,
+) -> u8
+    requires { E.has_failed errors.old ≡ false }
+{
+    let mut text = PendingText::new(alloc);
+    say_fault(&mut text, options, script, error);
+    if text.is_whole() {
+        report_to(errors, text.as_bytes(), status_of(error))
+    } else {
+        report_failure(errors, &FAILURE_LINES, Failure::Memory)
+    }
+}
+
+/// Reads the script of the file that the arguments name, or of the reader, and writes what the arguments ask for: a
+/// picture of a script of `lockmon queue`, or with `--run` of `lockmon run`, or the script with its answers and their
+/// reasons. They begin with the program's name. Where they ask for the help or the version, it writes that, and reads
+/// nothing. It gives the exit status: 0 where all was written; 1 where the script is refused, and 2 where the
+/// arguments are, which is reported to `errors`; 3 where the file, the reader, the writer or memory failed. Where it is
+/// not 0 nothing was written, but for a beginning where the writer failed.
+pub fn program<F: Files + AllocGlobal, S: AsStr, R: ByteIn, W: ByteOut, E: ByteOut>(
+    rt: &F,
+    arguments: &[S],
+    reader: &mut R,
+    writer: &mut W,
+    errors: &mut E,
+) -> u8
+    requires reader_sound { R.has_failed reader.old ≡ false }
+    requires writer_sound { W.has_failed writer.old ≡ false }
+    requires errors_sound { E.has_failed errors.old ≡ false }
+    ensures silent { WritesOnlyWhenDone (W.has_failed writer.new) (W.written writer.old) (W.written writer.new) result }
+{
+    let alloc = rt.alloc();
+    let options = match read_arguments(alloc, arguments) {
+        Ok(options) => options,
+        Err(refusal) => return refuse_arguments(alloc, refusal, &FAILURE_LINES, writer, errors),
+    };
+    match read_script(rt, &options.file, reader, errors) {
+        Ok(script) => answer(alloc, &options, script.as_slice(), writer, errors),
+        Err(status) => status,
+    }
+}

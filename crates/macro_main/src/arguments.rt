@@ -1,0 +1,98 @@
+//! The command line.
+
+ghost use Rattle.std.specs.Prelude.{IfOk};
+ghost use Rattle.macro_main.specs.Outputs.{HasOutputs};
+
+use clap::{Arg, ArgMatches, Command};
+use program_shell::{NameEnd, Refusal, Wrong, make_top, matches_of, output_in, refused};
+use std::alloc::{AllocError, Global};
+use std::convert::AsStr;
+
+/// What the arguments ask for.
+#[derive(Clone, Copy)]
+pub struct Options<'a> {
+    /// The file that gets the listing, if one is wanted.
+    pub list: Option<&'a str>,
+    /// The file that gets the cross-reference, if one is wanted.
+    pub cross: Option<&'a str>,
+    /// The file of the source, where it is not standard input.
+    pub file: Option<&'a str>,
+}
+
+/// How the name of a listing ends.
+const LIST_END: NameEnd = NameEnd::With(".lst");
+
+/// How the name of a cross-reference ends.
+const CROSS_END: NameEnd = NameEnd::With(".crf");
+
+const ABOUT: &str =
+    "Assembles a source in MACRO-10, and writes its words as a source that the other programs take.";
+
+const END: &str = "Writes that source to standard output, as in:\n\
+    macro table.mac > words.mac; ten words.mac\n\
+    and of a source that is refused what is wrong with it, a line for each error.\n\
+    Status: 0 all done, 1 the source was refused, 2 wrong words, 3 reading, writing or memory failed.";
+
+const LIST: &str =
+    "write a listing to this file: each line with its places, its words and its errors";
+
+const CROSS: &str = "write to this file where each name is defined and used";
+
+const FILE: &str = "the source, and not standard input";
+
+/// An option that names a file, which is shown so.
+fn make_file<'a>(alloc: Global, name: &'a str, shown: &'a str, help: &'a str) -> Arg<'a> {
+    Arg::new(alloc, name)
+        .long(name)
+        .value_name(shown)
+        .help(help)
+}
+
+/// The command line of the program.
+fn make_command<'a>(alloc: Global) -> Result<Command<'a>, AllocError> {
+    let top = make_top(alloc, "macro", ABOUT, END).bin_name("macro")?;
+    let with_list = top.arg(make_file(alloc, "list", "FILE.lst", LIST))?;
+    let with_cross = with_list.arg(make_file(alloc, "cross", "FILE.crf", CROSS))?;
+    with_cross.arg(Arg::new(alloc, "FILE").help(FILE))
+}
+
+/// What is asked for by what `clap` took.
+fn options_in<'a>(matches: &ArgMatches<'a>) -> Result<Options<'a>, Wrong<'a>>
+    ensures { IfOk result HasOutputs }
+{
+    let file = matches.get_str("FILE");
+    Ok(Options {
+        list: output_in(matches, "list", LIST_END, file.as_slice())?,
+        cross: output_in(matches, "cross", CROSS_END, file.as_slice())?,
+        file,
+    })
+}
+
+/// What the arguments ask for by a command line.
+fn read_by<'a, S: AsStr>(
+    alloc: Global,
+    command: &mut Command<'a>,
+    arguments: &'a [S],
+) -> Result<Options<'a>, Refusal>
+    ensures { IfOk result HasOutputs }
+{
+    let matches = matches_of(command, arguments)?;
+    match options_in(&matches) {
+        Ok(options) => Ok(options),
+        Err(wrong) => Err(refused(alloc, command, wrong)),
+    }
+}
+
+/// What the arguments, which begin with the program's name, ask for. No file that it names for an output is that of the source,
+/// nor are two of them one.
+pub fn read_arguments<'a, S: AsStr>(
+    alloc: Global,
+    arguments: &'a [S],
+) -> Result<Options<'a>, Refusal>
+    ensures { IfOk result HasOutputs }
+{
+    match make_command(alloc) {
+        Ok(mut command) => read_by(alloc, &mut command, arguments),
+        Err(_) => Err(Refusal::Memory),
+    }
+}
