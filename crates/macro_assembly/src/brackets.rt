@@ -3,7 +3,7 @@
 use crate::calls::{call, condition};
 use crate::elements::data_words;
 use crate::instructions::{instruction, word};
-use crate::statements::item;
+use crate::statements::read_item;
 use crate::steps::{BracketStep, Step, Work};
 use macro_names::Name;
 use macro_operations::Pseudo;
@@ -14,8 +14,8 @@ use macro_reading::{
 use macro_state::Assembly;
 use macro_stream::Place;
 
-/// Reads a value, or a statement of one word. Nothing is the value where nothing is there.
-pub fn inside(state: &mut Assembly, work: &mut Work) {
+/// Reads what is in a bracket: a value or a one-word statement; gives `None` if it is empty.
+pub fn read_bracket_content(state: &mut Assembly, work: &mut Work) {
     let place = begin_inner(state);
     if !state.is_name_next() {
         return word(state, work);
@@ -65,10 +65,10 @@ pub fn close(state: &mut Assembly, work: &mut Work, bracket: u8, statement: Plac
 }
 
 /// Reads the next statement of a literal, or closes it: its place, where this pass knows it.
-pub fn literal(state: &mut Assembly, work: &mut Work, open: OpenLiteral) {
+pub fn read_literal(state: &mut Assembly, work: &mut Work, open: OpenLiteral) {
     if next_in_literal(state, open.place) {
         work.push(state, Step::Bracket(BracketStep::Literal(open)));
-        return item(state, work, true);
+        return read_item(state, work, true);
     }
     let value = close_literal(state, open);
     work.give(Some(value))

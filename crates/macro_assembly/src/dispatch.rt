@@ -1,19 +1,19 @@
 //! Takes the steps of a statement.
 
-use crate::brackets::{close, inside, literal, one_word};
+use crate::brackets::{close, one_word, read_bracket_content, read_literal};
 use crate::calls::{behind_argument, behind_number, digits};
 use crate::elements::{
     add_byte, add_element, add_pair, add_radix50, behind_address, behind_left, behind_size,
     with_size,
 };
 use crate::instructions::{
-    add_instruction, behind_base, behind_first, behind_operand, index, indexed, right_half,
-    with_accumulator,
+    add_instruction, behind_operand, finish_indexed_word, index, read_after_base, read_after_first,
+    right_half, with_accumulator,
 };
 use crate::numbers::{bit_number, bits};
-use crate::operators::{behind, right_side, sum};
+use crate::operators::{read_after_term, right_side, sum};
 use crate::pseudo::{defined, radix, with_value};
-use crate::statements::{add_word, assigned, item};
+use crate::statements::{add_word, assigned, read_item};
 use crate::steps::{
     BracketStep, CallStep, DataStep, ExpressionStep, StatementStep, Step, WordStep, Work,
 };
@@ -24,7 +24,7 @@ use macro_state::Assembly;
 
 /// Reads a label or a statement, which is next, and carries it out.
 pub fn carry_out(state: &mut Assembly, work: &mut Work) {
-    item(state, work, false);
+    read_item(state, work, false);
     for _ in 0..u64::MAX {
         match work.next() {
             Some(step) => take(state, work, step),
@@ -53,7 +53,7 @@ fn take_expression(state: &mut Assembly, work: &mut Work, step: ExpressionStep) 
             start,
             least,
             signs,
-        } => behind(state, work, start, least, signs),
+        } => read_after_term(state, work, start, least, signs),
         ExpressionStep::RightSide {
             left,
             between,
@@ -73,19 +73,19 @@ fn take_expression(state: &mut Assembly, work: &mut Work, step: ExpressionStep) 
 
 fn take_bracket(state: &mut Assembly, work: &mut Work, step: BracketStep) {
     match step {
-        BracketStep::Inside => inside(state, work),
+        BracketStep::Inside => read_bracket_content(state, work),
         BracketStep::OneWord { first, name, place } => one_word(state, work, first, name, place),
         BracketStep::Close { bracket, statement } => close(state, work, bracket, statement),
-        BracketStep::Literal(open) => literal(state, work, open),
+        BracketStep::Literal(open) => read_literal(state, work, open),
     }
 }
 
 fn take_word(state: &mut Assembly, work: &mut Work, step: WordStep) {
     match step {
-        WordStep::First { start, indirect } => behind_first(state, work, start, indirect),
+        WordStep::First { start, indirect } => read_after_first(state, work, start, indirect),
         WordStep::RightHalf(left) => right_half(state, work, left),
-        WordStep::Indexed { base, placed } => indexed(state, work, base, placed),
-        WordStep::Base { indirect } => behind_base(state, work, indirect),
+        WordStep::Indexed { base, placed } => finish_indexed_word(state, work, base, placed),
+        WordStep::Base { indirect } => read_after_base(state, work, indirect),
         WordStep::Index(base) => index(state, work, base),
         WordStep::Operand {
             takes_address,

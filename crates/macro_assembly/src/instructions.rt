@@ -12,7 +12,7 @@ use macro_operations::Operation;
 use macro_state::{Assembly, Value};
 use macro_stream::Place;
 
-/// Reads a word: an address with `@` and an index, or two halves. Nothing is the value where nothing is there.
+/// Reads a word: `@address(index)` or two halves; gives `None` if no operand is there.
 pub fn word(state: &mut Assembly, work: &mut Work) {
     let start = start_of_value(state);
     let indirect = eat_indirect(state);
@@ -21,7 +21,7 @@ pub fn word(state: &mut Assembly, work: &mut Work) {
 }
 
 /// Goes on behind the first value of a word, which begins at `start`.
-pub fn behind_first(state: &mut Assembly, work: &mut Work, start: Place, indirect: bool) {
+pub fn read_after_first(state: &mut Assembly, work: &mut Work, start: Place, indirect: bool) {
     let first = work.value();
     if !indirect && eat_commas(state) {
         work.push(state, Step::Word(WordStep::RightHalf(first)));
@@ -48,7 +48,7 @@ pub fn right_half(state: &mut Assembly, work: &mut Work, left: Option<Value>) {
 }
 
 /// A word whose index is read.
-pub fn indexed(state: &mut Assembly, work: &mut Work, base: Fields, placed: bool) {
+pub fn finish_indexed_word(state: &mut Assembly, work: &mut Work, base: Fields, placed: bool) {
     let index = index_bits(state, or_zero(work.value()));
     let word = base.with_index(index).word();
     work.give(Some(Value::of_word(word, placed)))
@@ -62,7 +62,7 @@ pub fn address(state: &mut Assembly, work: &mut Work) {
 }
 
 /// Goes on behind the value of an address.
-pub fn behind_base(state: &mut Assembly, work: &mut Work, indirect: bool) {
+pub fn read_after_base(state: &mut Assembly, work: &mut Work, indirect: bool) {
     let base = address_fields(state, or_zero(work.value()), indirect);
     if is_index_next(state) {
         work.push(state, Step::Word(WordStep::Index(base)));
@@ -110,7 +110,7 @@ pub fn behind_operand(state: &mut Assembly, work: &mut Work, takes_address: bool
         return work.give_fields(Fields::none());
     }
     if first.is_some() {
-        behind_base(state, work, false)
+        read_after_base(state, work, false)
     } else {
         address(state, work)
     }

@@ -37,7 +37,13 @@ fn operand(state: &mut Assembly, work: &mut Work, start: Place, least: u8) {
 }
 
 /// Goes on behind a term. Its signs are those behind the first `signs` that are kept.
-pub fn behind(state: &mut Assembly, work: &mut Work, start: Place, least: u8, signs: usize) {
+pub fn read_after_term(
+    state: &mut Assembly,
+    work: &mut Work,
+    start: Place,
+    least: u8,
+    signs: usize,
+) {
     let value = apply_signs(state, or_zero(work.value()), signs);
     let left = LeftSide {
         value,

@@ -74,12 +74,12 @@ fn report_failure(state: &mut Assembly, failure: Failure) -> Result<(), AllocErr
 /// Goes on behind a statement that was not carried out.
 fn recover(state: &mut Assembly, failure: Failure) -> Result<(), AllocError> {
     report_failure(state, failure)?;
-    state.settle();
+    state.forget_statement();
     if !state.stopped {
         state.skip_line();
         if let Some(failure) = state.failure {
             report_failure(state, failure)?;
-            state.settle();
+            state.forget_statement();
         }
     }
     state.text_due = false;
@@ -187,7 +187,7 @@ fn find_soft_names(state: &mut Assembly) -> Result<(), AllocError> {
                 && of_subset(run.name).is_none()
                 && !state.is_soft(run.name)
             {
-                state.soft.push(run.name)?;
+                state.assumed_labels.push(run.name)?;
             }
         } else {
             if run.is_name && run.name == Name::of(b"END") {

@@ -1,6 +1,6 @@
 //! Pseudo-operations that give no words.
 
-use crate::brackets::inside;
+use crate::brackets::read_bracket_content;
 use crate::elements::decimal;
 use crate::operators::optional;
 use crate::steps::{StatementStep, Step, Work};
@@ -47,7 +47,7 @@ fn opdef(state: &mut Assembly, work: &mut Work, what: Name, place: Place) {
     let name = operation_name(state, what);
     let step = StatementStep::Defined { name, what, place };
     work.push(state, Step::Statement(step));
-    inside(state, work)
+    read_bracket_content(state, work)
 }
 
 /// Defines an operation, whose word is read.

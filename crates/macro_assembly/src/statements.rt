@@ -1,6 +1,6 @@
 //! Labels, assignments and statements.
 
-use crate::brackets::inside;
+use crate::brackets::read_bracket_content;
 use crate::calls::{call, condition};
 use crate::elements::data_words;
 use crate::instructions::{instruction, word};
@@ -17,7 +17,7 @@ use macro_state::Assembly;
 use macro_stream::Place;
 
 /// Reads a label or a statement, which is next.
-pub fn item(state: &mut Assembly, work: &mut Work, in_literal: bool) {
+pub fn read_item(state: &mut Assembly, work: &mut Work, in_literal: bool) {
     let place = begin_statement(state, in_literal);
     let end = Step::Statement(StatementStep::End { in_literal });
     match read_beginning(state, place, in_literal) {
@@ -80,7 +80,7 @@ fn assignment(state: &mut Assembly, work: &mut Work, name: Name, place: Place) {
     let start = read_equals(state, name, place);
     let step = StatementStep::Assigned { name, place, start };
     work.push(state, Step::Statement(step));
-    inside(state, work)
+    read_bracket_content(state, work)
 }
 
 /// Assigns the value, which is read.

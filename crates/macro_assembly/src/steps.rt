@@ -229,12 +229,12 @@ impl Work {
         self.steps.pop()
     }
 
-    /// Gives a value to the next step, or nothing, where nothing is there.
+    /// Hands the operand just read to the next step; `None` if there was none.
     pub fn give(&mut self, value: Option<Value>) {
         self.value = value;
     }
 
-    /// What was read, if anything was.
+    /// The operand that was read last; `None` if there was none.
     pub fn value(&self) -> Option<Value> {
         self.value
     }

@@ -231,7 +231,7 @@ pub fn push_radix50(state: &mut Assembly, code: Option<Value>, what: Name) {
     state.push_word(word);
 }
 
-/// The `(` of a size is next before the bytes of BYTE, as it has to be.
+/// Requires the `(` that opens the byte size.
 pub fn need_size(state: &mut Assembly, name: Name) {
     if state.blanks() != Some(b'(') {
         state.fail_statement(Fault::Needs(name));

@@ -112,7 +112,7 @@ pub fn eat_commas(state: &mut Assembly) -> bool {
 
 /// Whether `@` is next behind blanks; if so, goes on behind it. Before a name that is read none is.
 pub fn eat_indirect(state: &mut Assembly) -> bool {
-    state.held.is_none() && state.eat(b'@')
+    state.pending_label.is_none() && state.eat(b'@')
 }
 
 /// Whether an index is next.

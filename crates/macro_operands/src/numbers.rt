@@ -62,7 +62,7 @@ pub fn plain_value(state: &mut Assembly, next: Option<u8>, place: Place) -> Valu
 /// `.`: the place of the statement.
 pub fn dot_value(state: &mut Assembly) -> Value {
     state.advance(b'.');
-    Value::signed(state.dot, true)
+    Value::signed(state.statement_address, true)
 }
 
 /// A number that begins with a digit, in the radix of the numbers, or in decimal where `.` stands behind it.
@@ -132,7 +132,7 @@ pub fn bit_radix(state: &mut Assembly, place: Place) -> u8 {
     10
 }
 
-/// The place of what is next, where nothing is passed over.
+/// The source position of the next character; blanks are not skipped.
 pub fn next_place(state: &mut Assembly) -> Place {
     state.peek();
     state.place()

@@ -13,7 +13,7 @@ use macro_stream::Place;
 use macro_values::{Operator, operate};
 use word36::Word;
 
-/// A value, 0 where nothing is there.
+/// The value, or 0 for an empty operand.
 pub fn or_zero(value: Option<Value>) -> Value {
     match value {
         Some(value) => value,
@@ -76,12 +76,12 @@ fn begins_value(next: Option<u8>) -> bool {
 
 /// Whether a value is next.
 pub fn is_value_next(state: &mut Assembly) -> bool {
-    state.held.is_some() || begins_value(state.blanks())
+    state.pending_label.is_some() || begins_value(state.blanks())
 }
 
 /// Where the value begins that is next.
 pub fn start_of_value(state: &mut Assembly) -> Place {
-    if let Some((_, place)) = state.held {
+    if let Some((_, place)) = state.pending_label {
         return place;
     }
     state.blanks();
@@ -245,7 +245,7 @@ pub fn combined(
 /// Goes on behind the signs that are next, up to and with `-` or `^-`, which it gives; a `+` says nothing.
 fn take_sign(state: &mut Assembly) -> Option<Sign> {
     for _ in 0..u64::MAX {
-        if state.held.is_some() {
+        if state.pending_label.is_some() {
             break;
         }
         match state.blanks() {

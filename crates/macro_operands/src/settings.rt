@@ -51,7 +51,7 @@ pub fn set_phase(state: &mut Assembly, value: Option<Value>, what: Name) {
         state.fail_statement(Fault::PlaceRange);
     }
     if !state.is_failed() {
-        state.phase = Some(place.saturating_sub(state.here));
+        state.phase = Some(place.saturating_sub(state.counter));
     }
 }
 
@@ -59,9 +59,9 @@ pub fn set_phase(state: &mut Assembly, value: Option<Value>, what: Name) {
 fn keep_counter(state: &mut Assembly) {
     state.phase = None;
     if state.absolute {
-        state.kept_absolute = state.here;
+        state.kept_absolute = state.counter;
     } else {
-        state.kept_relocatable = state.here;
+        state.kept_relocatable = state.counter;
     }
 }
 
@@ -94,7 +94,7 @@ pub fn set_place(state: &mut Assembly, value: Option<Value>, what: Name, absolut
         return state.fail_statement(Fault::PlaceRange);
     }
     state.absolute = absolute;
-    state.here = place.min(MOST_PLACE);
+    state.counter = place.min(MOST_PLACE);
 }
 
 /// RADIX.

@@ -81,9 +81,9 @@ pub enum Pseudo {
     Purge,
     /// COMMENT.
     Comment,
-    /// REMARK and what else does nothing, and is not possible in a literal.
+    /// REMARK and its like: no effect, refused in a literal.
     Remark,
-    /// What does nothing.
+    /// No effect, allowed anywhere.
     Quiet,
     /// PRINTX.
     Printx,

@@ -9,7 +9,7 @@ use mac_layout::{Labels, MEMORY_SIZE, clamped};
 use source_check::assembles_to;
 use std::alloc::{AllocError, Global};
 
-/// What comes of a source that is read as one of the subset.
+/// What the subset assembler made of a source.
 #[derive(Drop)]
 pub enum Plain {
     /// The source that is written for it.

@@ -97,8 +97,8 @@ fn keep_places(state: &mut Assembly, value: Option<Value>, name: Name, in_litera
     }
 }
 
-/// Whether the line ends here, as it has to behind END.
-fn is_line_end(state: &mut Assembly) -> bool {
+/// Checks, and reports, that nothing follows END.
+fn need_line_end(state: &mut Assembly) -> bool {
     match state.blanks() {
         None | Some(b'\n' | b';') => !state.is_failed(),
         Some(found) => {
@@ -118,7 +118,7 @@ fn set_start(state: &mut Assembly, number: i64) {
 
 /// END: the start, then variables and literals.
 fn end(state: &mut Assembly, start: Option<Value>) {
-    if !is_line_end(state) {
+    if !need_line_end(state) {
         return;
     }
     state.ended = true;

@@ -38,7 +38,7 @@ pub fn begin_statement(state: &mut Assembly, in_literal: bool) -> Place {
     let place = state.place();
     state.statement = place;
     if !in_literal {
-        state.dot = state.phased();
+        state.statement_address = state.phased();
         state.listing.statement();
     }
     place
@@ -164,7 +164,8 @@ fn assign_word(state: &mut Assembly, name: Name, place: Place, value: Value, sta
     state.assign(name, place, number, value.placed);
 }
 
-/// Assigns a value, which begins at `start`. A wrong one leaves 0 in the second pass where nothing was.
+/// Assigns a value, which begins at `start`. In pass 2 a wrong value defines the name as 0, so that its uses are not reported
+/// too.
 pub fn assign_value(
     state: &mut Assembly,
     name: Name,

@@ -66,8 +66,8 @@ fn opdef_value(state: &mut Assembly, name: Name, number: Option<u64>) -> Value {
 
 /// The name that begins a value: one that is read already, or the one that is next behind blanks.
 pub fn next_name(state: &mut Assembly) -> Option<(Name, Place)> {
-    let held = state.held;
-    state.held = None;
+    let held = state.pending_label;
+    state.pending_label = None;
     if held.is_some() {
         return held;
     }
@@ -253,7 +253,7 @@ fn hold_name(state: &mut Assembly, name: Name, place: Place) {
     if refused || begins_operand(next, second) {
         state.fail(place, Fault::Refused(name));
     }
-    state.held = Some((name, place));
+    state.pending_label = Some((name, place));
 }
 
 /// What a name at the beginning of a statement, or in brackets, stands for.
@@ -284,7 +284,7 @@ fn meant_by(state: &mut Assembly, name: Name, place: Place, operation: Option<Bu
 /// What a name stands for in brackets: a symbol of the source goes before all else.
 pub fn meant_in_brackets(state: &mut Assembly, name: Name, place: Place) -> Meant {
     if state.is_source_symbol(name) {
-        state.held = Some((name, place));
+        state.pending_label = Some((name, place));
         return Meant::Value;
     }
     if let Some(index) = macro_of(state, name, place) {
@@ -310,7 +310,7 @@ pub fn meant_at_start(
     if state.meanings.get(name).is_some() {
         state.note_use(name, place.line);
     } else if is_label_use(state, name) {
-        state.held = Some((name, place));
+        state.pending_label = Some((name, place));
         return Meant::Value;
     }
     meant_by(state, name, place, operation)

@@ -179,7 +179,7 @@ impl Assembly {
 
     /// Whether a new word stands as a label in the source.
     pub fn is_soft(&self, name: Name) -> bool {
-        for soft in &self.soft {
+        for soft in &self.assumed_labels {
             if *soft == name {
                 return true;
             }

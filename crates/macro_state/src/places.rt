@@ -18,14 +18,14 @@ impl Assembly {
 
     /// Puts a word at the place that is next.
     pub fn emit(&mut self, word: Option<Word>, listed: bool) {
-        if self.here < 0 || self.here > 0o777_777 {
+        if self.counter < 0 || self.counter > 0o777_777 {
             return self.fail_statement(Fault::PlaceRange);
         }
         if self.pass == 2 {
-            self.put(self.here as u32, word.unwrap_or(Word::new(0)), listed);
+            self.put(self.counter as u32, word.unwrap_or(Word::new(0)), listed);
         }
         if !self.is_failed() {
-            self.here = self.here.saturating_add(1);
+            self.counter = self.counter.saturating_add(1);
         }
     }
 
@@ -66,14 +66,14 @@ impl Assembly {
     pub fn emit_space(&mut self, count: i64) {
         if count < 0 {
             self.fail_statement(Fault::BlockSize);
-        } else if self.here.saturating_add(count) > PLACES as i64 {
+        } else if self.counter.saturating_add(count) > PLACES as i64 {
             self.fail_statement(Fault::PlaceRange);
         }
         if self.is_failed() {
             return;
         }
-        if self.here >= 0 && self.here <= 0o777_777 {
-            self.list_row(Some(self.here as u32), None);
+        if self.counter >= 0 && self.counter <= 0o777_777 {
+            self.list_row(Some(self.counter as u32), None);
         }
         for _ in 0..count {
             self.emit(Some(Word::new(0)), false);

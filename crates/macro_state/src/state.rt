@@ -54,32 +54,32 @@ pub struct Assembly {
     pub meanings: Meanings,
     /// Macros.
     pub macros: Vec<MacroDefinition>,
-    /// Their dummies.
+    /// The dummies of all `macros`, one after another.
     pub dummies: Vec<Dummy>,
-    /// New words that stand as labels in the source.
-    pub soft: Vec<Name>,
+    /// Unknown words at the start of a statement, taken as labels.
+    pub assumed_labels: Vec<Name>,
     /// Whether SEARCH UUOSYM was read.
     pub uuosym: bool,
-    /// The place of the next word.
-    pub here: i64,
+    /// The address of the next word.
+    pub counter: i64,
     /// Whether LOC set it last.
     pub absolute: bool,
-    /// Where LOC's counter was.
+    /// The absolute counter, saved while relocatable code is read.
     pub kept_absolute: i64,
-    /// Where RELOC's counter was.
+    /// The relocatable counter, saved while absolute code is read.
     pub kept_relocatable: i64,
     /// How far labels are from their words under PHASE.
     pub phase: Option<i64>,
-    /// `.`.
-    pub dot: i64,
+    /// The address that `.` has: that of the statement.
+    pub statement_address: i64,
     /// Where the statement begins.
     pub statement: Place,
     /// How many literals are open.
     pub in_literals: u32,
     /// How many brackets are open.
     pub in_brackets: u32,
-    /// A name that is read and begins a value.
-    pub held: Option<(Name, Place)>,
+    /// A name that was read at the start of a statement: a label, or the start of a value.
+    pub pending_label: Option<(Name, Place)>,
     /// A name that the first pass does not know.
     pub missing: Option<Name>,
     /// A value that did not fit in the first pass.
@@ -143,18 +143,18 @@ impl Assembly {
             meanings: Meanings::new(alloc),
             macros: Vec::new(alloc),
             dummies: Vec::new(alloc),
-            soft: Vec::new(alloc),
+            assumed_labels: Vec::new(alloc),
             uuosym: false,
-            here: FIRST,
+            counter: FIRST,
             absolute: false,
             kept_absolute: 0,
             kept_relocatable: FIRST,
             phase: None,
-            dot: FIRST,
+            statement_address: FIRST,
             statement: Place::new(1, 1),
             in_literals: 0,
             in_brackets: 0,
-            held: None,
+            pending_label: None,
             missing: None,
             deferred: None,
             text_due: false,
@@ -188,7 +188,7 @@ impl Assembly {
         self.stream.rewind();
         self.listing.begin();
         self.radix = 8;
-        self.here = FIRST;
+        self.counter = FIRST;
         self.absolute = false;
         self.kept_absolute = 0;
         self.kept_relocatable = FIRST;
@@ -200,22 +200,22 @@ impl Assembly {
         self.created = 0;
         self.ended = false;
         self.start = 0o140;
-        self.settle();
+        self.forget_statement();
     }
 
     /// Forgets what is left of a statement that was not carried out.
-    pub fn settle(&mut self) {
+    pub fn forget_statement(&mut self) {
         self.failure = None;
         self.forget_words();
         self.number_radix = self.radix;
         self.in_literals = 0;
         self.in_brackets = 0;
-        self.held = None;
+        self.pending_label = None;
     }
 
     /// The place that labels and `.` have.
     pub fn phased(&self) -> i64 {
-        self.here.saturating_add(self.phase.unwrap_or(0))
+        self.counter.saturating_add(self.phase.unwrap_or(0))
     }
 
     /// The line and the column of a place, from which a text is put in front.

@@ -40,7 +40,7 @@ impl Kind {
 pub enum Rounds {
     /// None.
     None,
-    /// So many.
+    /// This number of repetitions.
     Count(u64),
     /// One for each of these texts, which stands for a dummy.
     List {

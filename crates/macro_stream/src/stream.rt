@@ -42,7 +42,7 @@ enum Step {
     Character(u8),
     /// The end of the source.
     Ended,
-    /// Something else, which is passed.
+    /// An item without a character: read on.
     Passed,
 }
 
