@@ -1,0 +1,6 @@
+pub mod Effects
+pub mod Filled
+pub mod ReadBack
+pub mod Readings
+pub mod Served
+pub mod Spelled
