@@ -245,6 +245,25 @@ impl Row {
     }
 }
 
+/// The rows of a test, and its name.
+pub struct Table {
+    pub name: &'static str,
+    pub rows: &'static [Row],
+}
+
+/// Walks the rows of each table: each must hold of a new job.
+pub fn walk_all(rt: &impl Abort, alloc: Global, tables: &[Table]) {
+    for table in tables {
+        for (i, row) in table.rows.iter().enumerate() {
+            assert!(rt;
+                row.holds_of_new(alloc) == Ok(true),
+                "{}, row {i}",
+                table.name
+            );
+        }
+    }
+}
+
 /// Walks rows: each must hold of a new job.
 pub fn walk(rt: &impl Abort, alloc: Global, rows: &[Row]) {
     for (i, row) in rows.iter().enumerate() {

@@ -5,7 +5,7 @@ use crate::machine::{NEXT, SKIPPED};
 use crate::rows::Act::{Block, Comes, PutsAc, Tick};
 use crate::rows::Row::{Asks, Calls, Does, Sees};
 use crate::rows::Sight::{Ac, Granted, IsReady, Pc, Requests, WaitsFor, Word};
-use crate::rows::{Row, walk};
+use crate::rows::{Row, Table, walk, walk_all};
 use job_sched::Wait;
 use uuo_calls::CallOutcome::Done;
 
@@ -52,79 +52,79 @@ fn limits(rt: HostRuntime) {
     walk(&rt, rt.alloc(), &LIMITS);
 }
 
-/// Only the block of an ENQ. 0 may have a limit.
-static LIMITS_OF_OTHER_CALLS: [Row; 10] = [
-    Does(Block(1, BLOCK, 0o1_000001, &[EXCLUSIVE])),
-    Asks(1, PIINI, 0o200, (SKIPPED, 0o200)),
-    Asks(1, ENQ, 0o1_000300, (NEXT, 3)),
-    Asks(1, ENQ, 0o2_000300, (NEXT, 3)),
-    Asks(1, ENQ, 0o3_000300, (NEXT, 3)),
-    Asks(1, DEQ, 0o300, (NEXT, 3)),
-    Asks(1, ENQC, 0o300, (NEXT, 3)),
-    Sees(Requests(0)),
-    Asks(1, ENQ, 0o300, (SKIPPED, 0o300)),
-    Sees(Requests(1)),
+/// The tables that are walked on a new machine each.
+static TABLES: [Table; 3] = [
+    // Only the block of an ENQ. 0 may have a limit.
+    Table {
+        name: "limits_of_other_calls",
+        rows: &[
+            Does(Block(1, BLOCK, 0o1_000001, &[EXCLUSIVE])),
+            Asks(1, PIINI, 0o200, (SKIPPED, 0o200)),
+            Asks(1, ENQ, 0o1_000300, (NEXT, 3)),
+            Asks(1, ENQ, 0o2_000300, (NEXT, 3)),
+            Asks(1, ENQ, 0o3_000300, (NEXT, 3)),
+            Asks(1, DEQ, 0o300, (NEXT, 3)),
+            Asks(1, ENQC, 0o300, (NEXT, 3)),
+            Sees(Requests(0)),
+            Asks(1, ENQ, 0o300, (SKIPPED, 0o300)),
+            Sees(Requests(1)),
+        ],
+    },
+    // Job 1 has a lock that it shares; jobs 2, alone, and 3, shared, ask for it. Both limits end at the third
+    // tick, and both leave, judged by the list before: job 3 does not get the lock from job 2's leaving.
+    Table {
+        name: "limits_that_end_together",
+        rows: &[
+            Does(Comes(2, 1)),
+            Does(Comes(3, 2)),
+            Does(Block(1, BLOCK, 1, &[SHARED])),
+            Asks(1, ENQ, 0o300, (SKIPPED, 0o300)),
+            Does(Block(2, BLOCK, 0o3_000002, &[EXCLUSIVE])),
+            Asks(2, ENQ, 0o300, (SKIPPED, 0o300)),
+            Does(Block(3, BLOCK, 0o3_000003, &[SHARED])),
+            Asks(3, ENQ, 0o300, (SKIPPED, 0o300)),
+            Does(Tick),
+            Does(Tick),
+            Sees(Requests(3)),
+            Does(Tick),
+            Sees(Ac(2, 1, 0o21)),
+            Sees(Ac(3, 1, 0o21)),
+            Sees(Pc(3, NEXT)),
+            Does(PutsAc(1, 2, 0o400)),
+            Asks(1, ENQC, 0o300, (SKIPPED, 0o300)),
+            Sees(Word(1, 0o400, Some(0o200000_000001))),
+            Sees(Word(1, 0o401, Some(0o1_000000))),
+            Sees(Word(1, 0o402, Some(0))),
+        ],
+    },
+    // As before, but job 3 has one tick more: it gets the lock when job 2 leaves, and its limit counts no more.
+    Table {
+        name: "limits_that_end_apart",
+        rows: &[
+            Does(Comes(2, 1)),
+            Does(Comes(3, 2)),
+            Does(Block(1, BLOCK, 1, &[SHARED])),
+            Asks(1, ENQ, 0o300, (SKIPPED, 0o300)),
+            Does(Block(2, BLOCK, 0o3_000002, &[EXCLUSIVE])),
+            Asks(2, ENQ, 0o300, (SKIPPED, 0o300)),
+            Does(Block(3, BLOCK, 0o4_000003, &[SHARED])),
+            Asks(3, ENQ, 0o300, (SKIPPED, 0o300)),
+            Does(Tick),
+            Does(Tick),
+            Does(Tick),
+            Sees(Ac(2, 1, 0o21)),
+            Sees(Requests(2)),
+            Sees(Granted(1, true)),
+            Sees(IsReady(3, true)),
+            Does(Tick),
+            Sees(Requests(2)),
+            Sees(Pc(3, SKIPPED)),
+            Sees(Ac(3, 1, 0o300)),
+        ],
+    },
 ];
 
 #[test]
-fn limits_of_other_calls(rt: HostRuntime) {
-    walk(&rt, rt.alloc(), &LIMITS_OF_OTHER_CALLS);
-}
-
-/// Job 1 has a lock that it shares; jobs 2, alone, and 3, shared, ask for it. Both limits end at the third
-/// tick, and both leave, judged by the list before: job 3 does not get the lock from job 2's leaving.
-static LIMITS_THAT_END_TOGETHER: [Row; 20] = [
-    Does(Comes(2, 1)),
-    Does(Comes(3, 2)),
-    Does(Block(1, BLOCK, 1, &[SHARED])),
-    Asks(1, ENQ, 0o300, (SKIPPED, 0o300)),
-    Does(Block(2, BLOCK, 0o3_000002, &[EXCLUSIVE])),
-    Asks(2, ENQ, 0o300, (SKIPPED, 0o300)),
-    Does(Block(3, BLOCK, 0o3_000003, &[SHARED])),
-    Asks(3, ENQ, 0o300, (SKIPPED, 0o300)),
-    Does(Tick),
-    Does(Tick),
-    Sees(Requests(3)),
-    Does(Tick),
-    Sees(Ac(2, 1, 0o21)),
-    Sees(Ac(3, 1, 0o21)),
-    Sees(Pc(3, NEXT)),
-    Does(PutsAc(1, 2, 0o400)),
-    Asks(1, ENQC, 0o300, (SKIPPED, 0o300)),
-    Sees(Word(1, 0o400, Some(0o200000_000001))),
-    Sees(Word(1, 0o401, Some(0o1_000000))),
-    Sees(Word(1, 0o402, Some(0))),
-];
-
-#[test]
-fn limits_that_end_together(rt: HostRuntime) {
-    walk(&rt, rt.alloc(), &LIMITS_THAT_END_TOGETHER);
-}
-
-/// As before, but job 3 has one tick more: it gets the lock when job 2 leaves, and its limit counts no more.
-static LIMITS_THAT_END_APART: [Row; 19] = [
-    Does(Comes(2, 1)),
-    Does(Comes(3, 2)),
-    Does(Block(1, BLOCK, 1, &[SHARED])),
-    Asks(1, ENQ, 0o300, (SKIPPED, 0o300)),
-    Does(Block(2, BLOCK, 0o3_000002, &[EXCLUSIVE])),
-    Asks(2, ENQ, 0o300, (SKIPPED, 0o300)),
-    Does(Block(3, BLOCK, 0o4_000003, &[SHARED])),
-    Asks(3, ENQ, 0o300, (SKIPPED, 0o300)),
-    Does(Tick),
-    Does(Tick),
-    Does(Tick),
-    Sees(Ac(2, 1, 0o21)),
-    Sees(Requests(2)),
-    Sees(Granted(1, true)),
-    Sees(IsReady(3, true)),
-    Does(Tick),
-    Sees(Requests(2)),
-    Sees(Pc(3, SKIPPED)),
-    Sees(Ac(3, 1, 0o300)),
-];
-
-#[test]
-fn limits_that_end_apart(rt: HostRuntime) {
-    walk(&rt, rt.alloc(), &LIMITS_THAT_END_APART);
+fn tables_hold(rt: HostRuntime) {
+    walk_all(&rt, rt.alloc(), &TABLES);
 }

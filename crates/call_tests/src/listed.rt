@@ -3,7 +3,7 @@
 use crate::machine::{Machine, NEXT};
 use crate::rows::Row::{Calli, Calls, Refuses, Sees, Ttcall};
 use crate::rows::Sight::Stopped;
-use crate::rows::{Row, first_wrong, walk};
+use crate::rows::{Table, first_wrong, walk_all};
 use job_sched::Stop;
 use uuo_calls::CallOutcome::{Done, Gone};
 
@@ -58,38 +58,39 @@ fn each_ttcall(rt: HostRuntime) {
     }
 }
 
-/// The rows of `exit_by_its_ac_field`.
-static EXIT_BY_ITS_AC_FIELD: [Row; 4] = [
-    Calls(1, 0, EXIT, (Done, NEXT)),
-    Sees(Stopped(1, Some(Stop::Exit))),
-    Calls(1, 1, EXIT, (Done, NEXT)),
-    Sees(Stopped(1, Some(Stop::Monitor))),
+/// The tables that are walked on a new machine each.
+static TABLES: [Table; 2] = [
+    Table {
+        name: "exit_by_its_ac_field",
+        rows: &[
+            Calls(1, 0, EXIT, (Done, NEXT)),
+            Sees(Stopped(1, Some(Stop::Exit))),
+            Calls(1, 1, EXIT, (Done, NEXT)),
+            Sees(Stopped(1, Some(Stop::Monitor))),
+        ],
+    },
+    Table {
+        name: "exit_by_no_ac_field",
+        rows: &[
+            Refuses(2, EXIT),
+            Refuses(3, EXIT),
+            Refuses(4, EXIT),
+            Refuses(5, EXIT),
+            Refuses(6, EXIT),
+            Refuses(7, EXIT),
+            Refuses(8, EXIT),
+            Refuses(9, EXIT),
+            Refuses(10, EXIT),
+            Refuses(11, EXIT),
+            Refuses(12, EXIT),
+            Refuses(13, EXIT),
+            Refuses(14, EXIT),
+            Refuses(15, EXIT),
+        ],
+    },
 ];
 
 #[test]
-fn exit_by_its_ac_field(rt: HostRuntime) {
-    walk(&rt, rt.alloc(), &EXIT_BY_ITS_AC_FIELD);
-}
-
-/// The rows of `exit_by_no_ac_field`.
-static EXIT_BY_NO_AC_FIELD: [Row; 14] = [
-    Refuses(2, EXIT),
-    Refuses(3, EXIT),
-    Refuses(4, EXIT),
-    Refuses(5, EXIT),
-    Refuses(6, EXIT),
-    Refuses(7, EXIT),
-    Refuses(8, EXIT),
-    Refuses(9, EXIT),
-    Refuses(10, EXIT),
-    Refuses(11, EXIT),
-    Refuses(12, EXIT),
-    Refuses(13, EXIT),
-    Refuses(14, EXIT),
-    Refuses(15, EXIT),
-];
-
-#[test]
-fn exit_by_no_ac_field(rt: HostRuntime) {
-    walk(&rt, rt.alloc(), &EXIT_BY_NO_AC_FIELD);
+fn tables_hold(rt: HostRuntime) {
+    walk_all(&rt, rt.alloc(), &TABLES);
 }

@@ -264,6 +264,7 @@ impl Machine {
             &mut self.room,
             self.time,
         )
+        .outcome
     }
 
     /// Makes a CALLI of this AC field and number.

@@ -250,6 +250,21 @@ pub fn walk_in(rt: &impl Abort, alloc: Global, blocks: u32, rows: &[Row])
     }
 }
 
+/// The rows of a test, and its name.
+pub struct Table {
+    pub name: &'static str,
+    pub rows: &'static [Row],
+}
+
+/// Walks the rows of each table on a new machine of 64 blocks with job 1 at line 0: each must hold.
+pub fn walk_all(rt: &impl Abort, alloc: Global, tables: &[Table]) {
+    for table in tables {
+        if let Some(i) = first_wrong(rt, alloc, 64, table.rows) {
+            panic!(rt; "{}, row {i}", table.name);
+        }
+    }
+}
+
 /// Walks the rows on a machine of 64 blocks with job 1 at line 0: each must hold.
 pub fn walk(rt: &impl Abort, alloc: Global, rows: &[Row]) {
     walk_in(rt, alloc, 64, rows);

@@ -4,7 +4,7 @@ use crate::machine::{BACK, NEXT, SKIPPED};
 use crate::rows::Act::{Outputs, Stores, Types};
 use crate::rows::Row::{Does, Sees, Takes, Tty};
 use crate::rows::Sight::{Ac, Room, Stopped, Word};
-use crate::rows::{Row, walk};
+use crate::rows::{Table, walk_all};
 use job_sched::{Stop, Wait};
 use ka_cpu::StopReason::IllegalAddress;
 use uuo_calls::CallOutcome;
@@ -41,119 +41,112 @@ const STOPPED: End = (CallOutcome::Done, BACK, Wait::None);
 
 const ILLEGAL: Option<Stop> = Some(Stop::Fault(IllegalAddress));
 
-/// `OUTSTR [ASCIZ /HI/]`: the literal is 442220,,000000.
-static HI: [Row; 4] = [
-    Does(Stores(1, 0o143, &[0o442220_000000])),
-    Tty(OUTSTR, 0o143, DONE),
-    Takes(64, b"HI"),
-    Takes(64, b""),
-];
-
-#[test]
-fn hi(rt: HostRuntime) {
-    walk(&rt, rt.alloc(), &HI);
-}
-
-/// 511 characters are in the ring: two more do not fit, and neither is put; after one was taken both
-/// are.
-static TEXT_WAITS_FOR_ROOM: [Row; 14] = [
-    Does(Outputs(511)),
-    Does(Stores(1, 0o143, &[0o442220_000000])),
-    Tty(OUTSTR, 0o143, (CallOutcome::Empty, BACK, Wait::Room(2))),
-    Sees(Room(1)),
-    Takes(1, b"X"),
-    Tty(OUTSTR, 0o143, DONE),
-    Sees(Room(0)),
-    Tty(OUTCHR, 0o143, (CallOutcome::Empty, BACK, Wait::Room(1))),
-    // An empty text needs no room.
-    Does(Stores(1, 0o144, &[0])),
-    Tty(OUTSTR, 0o144, DONE),
-    Tty(CLRBFO, 0, DONE),
-    Sees(Room(512)),
-    // The low seven bits of the word.
-    Tty(OUTCHR, 0o143, DONE),
-    Takes(64, b"\0"),
-];
-
-#[test]
-fn text_waits_for_room(rt: HostRuntime) {
-    walk(&rt, rt.alloc(), &TEXT_WAITS_FOR_ROOM);
-}
-
 /// Five characters, of which none is a zero.
 const TEXT: u64 = 0o406030_140602;
 
-/// A text without a zero is read up to its 512th character, in the 103rd of its words: from 1631 octal
-/// on they all lie in a core of one block, from 1632 on the last does not.
-static TEXT_OF_512_CHARACTERS: [Row; 5] = [
-    Does(Stores(1, 0o1631, &[TEXT; 103])),
-    Tty(OUTSTR, 0o1631, DONE),
-    Sees(Room(0)),
-    // Its last word is at 2000.
-    Tty(OUTSTR, 0o1632, STOPPED),
-    Sees(Stopped(1, ILLEGAL)),
+/// The tables that are walked on a new machine each.
+static TABLES: [Table; 5] = [
+    // `OUTSTR [ASCIZ /HI/]`: the literal is 442220,,000000.
+    Table {
+        name: "hi",
+        rows: &[
+            Does(Stores(1, 0o143, &[0o442220_000000])),
+            Tty(OUTSTR, 0o143, DONE),
+            Takes(64, b"HI"),
+            Takes(64, b""),
+        ],
+    },
+    // 511 characters are in the ring: two more do not fit, and neither is put; after one was taken both
+    // are.
+    Table {
+        name: "text_waits_for_room",
+        rows: &[
+            Does(Outputs(511)),
+            Does(Stores(1, 0o143, &[0o442220_000000])),
+            Tty(OUTSTR, 0o143, (CallOutcome::Empty, BACK, Wait::Room(2))),
+            Sees(Room(1)),
+            Takes(1, b"X"),
+            Tty(OUTSTR, 0o143, DONE),
+            Sees(Room(0)),
+            Tty(OUTCHR, 0o143, (CallOutcome::Empty, BACK, Wait::Room(1))),
+            // An empty text needs no room.
+            Does(Stores(1, 0o144, &[0])),
+            Tty(OUTSTR, 0o144, DONE),
+            Tty(CLRBFO, 0, DONE),
+            Sees(Room(512)),
+            // The low seven bits of the word.
+            Tty(OUTCHR, 0o143, DONE),
+            Takes(64, b"\0"),
+        ],
+    },
+    // A text without a zero is read up to its 512th character, in the 103rd of its words: from 1631 octal
+    // on they all lie in a core of one block, from 1632 on the last does not.
+    Table {
+        name: "text_of_512_characters",
+        rows: &[
+            Does(Stores(1, 0o1631, &[TEXT; 103])),
+            Tty(OUTSTR, 0o1631, DONE),
+            Sees(Room(0)),
+            // Its last word is at 2000.
+            Tty(OUTSTR, 0o1632, STOPPED),
+            Sees(Stopped(1, ILLEGAL)),
+        ],
+    },
+    Table {
+        name: "characters_are_read",
+        rows: &[
+            Does(Types(b"AB\x0aC")),
+            Tty(SKPINC, 0, DONE_WITH_SKIP),
+            Tty(SKPINL, 0, DONE_WITH_SKIP),
+            Tty(INCHRW, 0o200, DONE),
+            Sees(Word(1, 0o200, Some(0o101))),
+            Tty(INCHSL, 5, DONE_WITH_SKIP),
+            Sees(Ac(1, 5, 0o102)),
+            Tty(INCHWL, 0o201, DONE),
+            Sees(Word(1, 0o201, Some(0o12))),
+            Tty(SKPINL, 0, DONE),
+            // No line: neither store nor skip.
+            Tty(INCHSL, 0o202, DONE),
+            Sees(Word(1, 0o202, Some(0))),
+            Tty(INCHWL, 0o202, (CallOutcome::Empty, BACK, Wait::Line)),
+            Tty(INCHRS, 0o202, DONE_WITH_SKIP),
+            Sees(Word(1, 0o202, Some(0o103))),
+            Tty(INCHRS, 0o203, DONE),
+            Sees(Word(1, 0o203, Some(0))),
+            Tty(INCHRW, 0o203, (CallOutcome::Empty, BACK, Wait::Char)),
+            Tty(SKPINC, 0, DONE),
+            Does(Types(b"D\x0a")),
+            Tty(CLRBFI, 0, DONE),
+            Tty(SKPINC, 0, DONE),
+        ],
+    },
+    // An address past core stops the job, also where there is no character and no room.
+    Table {
+        name: "illegal_places",
+        rows: &[
+            Tty(INCHRW, 0o2000, STOPPED),
+            Sees(Stopped(1, ILLEGAL)),
+            Tty(INCHRW, 0o777_777, STOPPED),
+            Tty(OUTCHR, 0o2000, STOPPED),
+            Sees(Stopped(1, ILLEGAL)),
+            Tty(OUTCHR, 0o777_777, STOPPED),
+            Tty(INCHRS, 0o2000, STOPPED),
+            Sees(Stopped(1, ILLEGAL)),
+            Tty(INCHRS, 0o777_777, STOPPED),
+            Tty(OUTSTR, 0o2000, STOPPED),
+            Sees(Stopped(1, ILLEGAL)),
+            Tty(OUTSTR, 0o777_777, STOPPED),
+            Tty(INCHWL, 0o2000, STOPPED),
+            Sees(Stopped(1, ILLEGAL)),
+            Tty(INCHWL, 0o777_777, STOPPED),
+            Tty(INCHSL, 0o2000, STOPPED),
+            Sees(Stopped(1, ILLEGAL)),
+            Tty(INCHSL, 0o777_777, STOPPED),
+        ],
+    },
 ];
 
 #[test]
-fn text_of_512_characters(rt: HostRuntime) {
-    walk(&rt, rt.alloc(), &TEXT_OF_512_CHARACTERS);
-}
-
-/// The rows of `characters_are_read`.
-static CHARACTERS_ARE_READ: [Row; 22] = [
-    Does(Types(b"AB\x0aC")),
-    Tty(SKPINC, 0, DONE_WITH_SKIP),
-    Tty(SKPINL, 0, DONE_WITH_SKIP),
-    Tty(INCHRW, 0o200, DONE),
-    Sees(Word(1, 0o200, Some(0o101))),
-    Tty(INCHSL, 5, DONE_WITH_SKIP),
-    Sees(Ac(1, 5, 0o102)),
-    Tty(INCHWL, 0o201, DONE),
-    Sees(Word(1, 0o201, Some(0o12))),
-    Tty(SKPINL, 0, DONE),
-    // No line: neither store nor skip.
-    Tty(INCHSL, 0o202, DONE),
-    Sees(Word(1, 0o202, Some(0))),
-    Tty(INCHWL, 0o202, (CallOutcome::Empty, BACK, Wait::Line)),
-    Tty(INCHRS, 0o202, DONE_WITH_SKIP),
-    Sees(Word(1, 0o202, Some(0o103))),
-    Tty(INCHRS, 0o203, DONE),
-    Sees(Word(1, 0o203, Some(0))),
-    Tty(INCHRW, 0o203, (CallOutcome::Empty, BACK, Wait::Char)),
-    Tty(SKPINC, 0, DONE),
-    Does(Types(b"D\x0a")),
-    Tty(CLRBFI, 0, DONE),
-    Tty(SKPINC, 0, DONE),
-];
-
-#[test]
-fn characters_are_read(rt: HostRuntime) {
-    walk(&rt, rt.alloc(), &CHARACTERS_ARE_READ);
-}
-
-/// An address past core stops the job, also where there is no character and no room.
-static ILLEGAL_PLACES: [Row; 18] = [
-    Tty(INCHRW, 0o2000, STOPPED),
-    Sees(Stopped(1, ILLEGAL)),
-    Tty(INCHRW, 0o777_777, STOPPED),
-    Tty(OUTCHR, 0o2000, STOPPED),
-    Sees(Stopped(1, ILLEGAL)),
-    Tty(OUTCHR, 0o777_777, STOPPED),
-    Tty(INCHRS, 0o2000, STOPPED),
-    Sees(Stopped(1, ILLEGAL)),
-    Tty(INCHRS, 0o777_777, STOPPED),
-    Tty(OUTSTR, 0o2000, STOPPED),
-    Sees(Stopped(1, ILLEGAL)),
-    Tty(OUTSTR, 0o777_777, STOPPED),
-    Tty(INCHWL, 0o2000, STOPPED),
-    Sees(Stopped(1, ILLEGAL)),
-    Tty(INCHWL, 0o777_777, STOPPED),
-    Tty(INCHSL, 0o2000, STOPPED),
-    Sees(Stopped(1, ILLEGAL)),
-    Tty(INCHSL, 0o777_777, STOPPED),
-];
-
-#[test]
-fn illegal_places(rt: HostRuntime) {
-    walk(&rt, rt.alloc(), &ILLEGAL_PLACES);
+fn tables_hold(rt: HostRuntime) {
+    walk_all(&rt, rt.alloc(), &TABLES);
 }

@@ -1,4 +1,4 @@
-//! Generated programs, and a plain walk over all sequences of their jobs.
+//! Generated programs, and a plain walk over all sequences of their jobs, which keeps the requests in order of arrival.
 
 use lock_queue::LockReply;
 use lockcheck_orders::{ANSWERS, Desk, Looked, Programs, Report, WAITS, look};
@@ -9,7 +9,7 @@ use std::collections::BTreeSet;
 use std::test::Fail;
 
 /// What stands before a job's number in a line, and behind it.
-static LINES: [(&str, &str); 12] = [
+static LINES: [(&str, &str); 16] = [
     ("ENQ", " 0 1 A"),
     ("ENQ", " 0 2 B/B"),
     ("ENQ", " 0 3 A/B"),
@@ -18,7 +18,11 @@ static LINES: [(&str, &str); 12] = [
     ("ENQ", " 2 6 A B/B"),
     ("ENQ", " 3 0 A"),
     ("ENQ", " 3 0 B/S"),
+    ("ENQ", " 0 7 C/G7/S/B"),
+    ("ENQ", " 0 8 A/B C/S/B"),
+    ("ENQ", " 0 9 D/P3:2/B"),
     ("DEQ", " 0 A"),
+    ("DEQ", " 0 C"),
     ("DEQ", " 1"),
     ("DEQ", " 2 2"),
     ("FREE", ""),
@@ -40,7 +44,7 @@ fn script_of(alloc: Global, seed: u64, jobs: usize, calls: usize) -> Result<Stri
     for job in JOBS.iter().take(jobs) {
         for _ in 0..calls {
             number = next_number(number);
-            let (head, tail) = LINES[((number >> 33) % 12) as usize];
+            let (head, tail) = LINES[((number >> 33) % 16) as usize];
             for part in [head, *job, tail, "\n"] {
                 script.push_str(part)?;
             }
@@ -227,7 +231,10 @@ fn two_jobs(rt: HostRuntime) -> Result<(), Fail> {
 
 #[test]
 fn three_jobs(rt: HostRuntime) -> Result<(), Fail> {
-    for seed in 0..12 {
+    for seed in 0..340 {
+        assert!(rt; agrees(rt.alloc(), seed, 3, 2)?);
+    }
+    for seed in 0..49 {
         assert!(rt; agrees(rt.alloc(), seed, 3, 3)?);
     }
     assert!(rt; agrees(rt.alloc(), 100, 3, 4)?);

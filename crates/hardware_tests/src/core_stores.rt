@@ -2,7 +2,7 @@
 
 ghost use Rattle.std.specs.Prelude.{◌<◌, ◌^◌};
 
-use crate::core_acts::{Act, answer, first_difference, first_word_apart, walk};
+use crate::core_acts::{Act, answer, walk};
 use crate::core_tables::{ALL_IN_ONE, GROWN, MOVED_TOGETHER, NEW_CORE};
 use crate::{come_and_go, copy_word, fetch_in, hand_over, log_in, step_beside, step_in, write_in};
 use core_store::{BlockCore, CoreStore, NoCore, PlainCore};
@@ -61,19 +61,6 @@ fn expect_undisturbed<C: CoreStore>(rt: &impl Abort, alloc: Global, store: &str)
 fn all_jobs_share_256_blocks(rt: HostRuntime) {
     expect_undisturbed::<PlainCore>(&rt, rt.alloc(), "PlainCore");
     expect_undisturbed::<BlockCore>(&rt, rt.alloc(), "BlockCore");
-}
-
-#[test]
-fn stores_answer_alike(rt: HostRuntime) -> Result<(), Fail> {
-    let mut plain = PlainCore::new(rt.alloc(), 96)?;
-    let mut block = BlockCore::new(rt.alloc(), 96)?;
-    let act = first_difference(&mut plain, &mut block, 20_000);
-    assert!(rt; act.is_none(), "act {act:?}");
-    assert!(rt;
-        first_word_apart(&plain, &block).is_none(),
-        "a word differs"
-    );
-    Ok(())
 }
 
 /// Whether the callers of this crate leave jobs 1, 2 and 3 of a store of 14 blocks one, one and two of them, and a

@@ -93,125 +93,17 @@ impl Row {
     }
 }
 
-/// Walks rows: each must hold.
-fn walk(rt: &impl Abort, rows: &[Row]) {
+/// The rows of a table, and its name.
+struct Table {
+    name: &'static str,
+    rows: &'static [Row],
+}
+
+/// Walks the rows of a table of this name: each must hold.
+fn walk(rt: &impl Abort, name: &str, rows: &[Row]) {
     for (i, row) in rows.iter().enumerate() {
-        assert!(rt; row.holds(), "row {i}");
+        assert!(rt; row.holds(), "{name}, row {i}");
     }
-}
-
-/// The rows of `fields_of_words`.
-static FIELDS: [Row; 5] = [
-    Row::Decodes((0o201040, 5), (0o201, 1, false, 0, 5)),
-    Row::Decodes((0o777777, 0o777777), (0o777, 0o17, true, 0o17, 0o777777)),
-    Row::Encodes((0, 0, true, 0, 0), (0o20, 0)),
-    Row::Encodes((0, 0, false, 1, 0), (1, 0)),
-    Row::Encodes((0o254, 4, false, 0, 0o140), (0o254200, 0o140)),
-];
-
-#[test]
-fn fields_of_words(rt: HostRuntime) {
-    walk(&rt, &FIELDS);
-}
-
-/// The rows of `names_by_code_and_back`.
-static NAMES: [Row; 40] = [
-    Row::Operation(0o047, "CALLI"),
-    Row::Operation(0o133, "IBP"),
-    Row::Operation(0o200, "MOVE"),
-    Row::Operation(0o211, "MOVNI"),
-    Row::Operation(0o223, "IMULB"),
-    Row::Operation(0o240, "ASH"),
-    Row::Operation(0o246, "LSHC"),
-    Row::Operation(0o250, "EXCH"),
-    Row::Operation(0o253, "AOBJN"),
-    Row::Operation(0o260, "PUSHJ"),
-    Row::Operation(0o265, "JSP"),
-    Row::Operation(0o272, "ADDM"),
-    Row::Operation(0o305, "CAIGE"),
-    Row::Operation(0o316, "CAMN"),
-    Row::Operation(0o323, "JUMPLE"),
-    Row::Operation(0o334, "SKIPA"),
-    Row::Operation(0o344, "AOJA"),
-    Row::Operation(0o377, "SOSG"),
-    Row::Operation(0o443, "ANDCBB"),
-    Row::Operation(0o476, "SETOM"),
-    Row::Operation(0o523, "HLLOS"),
-    Row::Operation(0o602, "TRNE"),
-    Row::Operation(0o650, "TDC"),
-    Row::Operation(0o625, "TLZA"),
-    Row::Operation(0o677, "TSON"),
-    Row::NoOperation(0),
-    Row::NoOperation(0o37),
-    Row::NoOperation(0o46),
-    Row::NoOperation(0o50),
-    Row::NoOperation(0o132),
-    Row::NoOperation(0o140),
-    Row::NoOperation(0o177),
-    Row::NoOperation(0o234),
-    Row::NoOperation(0o244),
-    Row::NoOperation(0o247),
-    Row::NoOperation(0o257),
-    Row::NoOperation(0o700),
-    Row::NoOperation(0o777),
-    Row::NoOperation(0o1000),
-    // 2 calls, 5 of bytes, 16 moves, 12 of multiplying and dividing, 6 shifts with JFFO, 7 from EXCH
-    // to XCT, 8 from PUSHJ to JRA, 8 sums, and 64 comparisons, Booleans, halves and tests each; 28 calls
-    Row::NameCount(2 + 5 + 16 + 12 + 6 + 7 + 8 + 8 + 4 * 64 + 28),
-];
-
-#[test]
-fn names_by_code_and_back(rt: HostRuntime) {
-    walk(&rt, &NAMES);
-}
-
-/// The rows of `calls_by_name`.
-static CALLS: [Row; 20] = [
-    Row::Call("RESET", (0o047000, 0), true, false),
-    Row::Call("ENQ.", (0o047000, 0o151), true, false),
-    Row::Call("DATRD.", (0o047000, 0o777776), true, false),
-    Row::Call("DATWR.", (0o047000, 0o777775), true, false),
-    Row::Call("MONRT.", (0o047040, 0o12), false, false),
-    Row::Call("INCHRW", (0o051000, 0), false, true),
-    Row::Call("OUTSTR", (0o051140, 0), false, true),
-    Row::Call("SKPINL", (0o051600, 0), false, true),
-    Row::Call("HALT", (0o254200, 0), false, true),
-    Row::Call("JRSTF", (0o254100, 0), false, true),
-    Row::NoName(""),
-    Row::NoName("A"),
-    Row::NoName("MOV"),
-    Row::NoName("MOVEE"),
-    Row::NoName("move"),
-    Row::NoName("ENQ"),
-    Row::NoName("ENQ.X"),
-    Row::NoName("MOVE "),
-    Row::NoName("ZZZZZZ"),
-    Row::NoName("END"),
-];
-
-#[test]
-fn calls_by_name(rt: HostRuntime) {
-    walk(&rt, &CALLS);
-}
-
-/// The rows of `words_as_lines`.
-static LINES: [Row; 11] = [
-    Row::Line((0o201040, 5), "MOVEI 1,5"),
-    Row::Line((0o047040, 0o151), "CALLI 1,151"),
-    Row::Line((0o254000, 0o140), "JRST 140"),
-    Row::Line((0o051140, 0o143), "TTCALL 3,143"),
-    Row::Line((0o550057, 4), "HRRZ 1,4(17)"),
-    Row::Line((0o350020, 0), "AOS @0"),
-    Row::Line((0o051777, 0o777777), "TTCALL 17,@777777(17)"),
-    Row::Line((0, 0), "XWD 0,0"),
-    Row::Line((0o777777, 0o777777), "XWD 777777,777777"),
-    Row::Line((0o000001, 0o10), "XWD 1,10"),
-    Row::Line((0o442220, 0), "ANDCBM 4,@0"),
-];
-
-#[test]
-fn words_as_lines(rt: HostRuntime) {
-    walk(&rt, &LINES);
 }
 
 /// The rows of `families`.
@@ -226,5 +118,114 @@ static FAMILIES: [Row; 6] = [
 
 #[test]
 fn families(rt: HostRuntime) {
-    walk(&rt, &FAMILIES);
+    walk(&rt, "FAMILIES", &FAMILIES);
+}
+
+/// All tables but those that have a test of their own.
+static TABLES: [Table; 4] = [
+    Table {
+        name: "fields_of_words",
+        rows: &[
+            Row::Decodes((0o201040, 5), (0o201, 1, false, 0, 5)),
+            Row::Decodes((0o777777, 0o777777), (0o777, 0o17, true, 0o17, 0o777777)),
+            Row::Encodes((0, 0, true, 0, 0), (0o20, 0)),
+            Row::Encodes((0, 0, false, 1, 0), (1, 0)),
+            Row::Encodes((0o254, 4, false, 0, 0o140), (0o254200, 0o140)),
+        ],
+    },
+    Table {
+        name: "names_by_code_and_back",
+        rows: &[
+            Row::Operation(0o047, "CALLI"),
+            Row::Operation(0o133, "IBP"),
+            Row::Operation(0o200, "MOVE"),
+            Row::Operation(0o211, "MOVNI"),
+            Row::Operation(0o223, "IMULB"),
+            Row::Operation(0o240, "ASH"),
+            Row::Operation(0o246, "LSHC"),
+            Row::Operation(0o250, "EXCH"),
+            Row::Operation(0o253, "AOBJN"),
+            Row::Operation(0o260, "PUSHJ"),
+            Row::Operation(0o265, "JSP"),
+            Row::Operation(0o272, "ADDM"),
+            Row::Operation(0o305, "CAIGE"),
+            Row::Operation(0o316, "CAMN"),
+            Row::Operation(0o323, "JUMPLE"),
+            Row::Operation(0o334, "SKIPA"),
+            Row::Operation(0o344, "AOJA"),
+            Row::Operation(0o377, "SOSG"),
+            Row::Operation(0o443, "ANDCBB"),
+            Row::Operation(0o476, "SETOM"),
+            Row::Operation(0o523, "HLLOS"),
+            Row::Operation(0o602, "TRNE"),
+            Row::Operation(0o650, "TDC"),
+            Row::Operation(0o625, "TLZA"),
+            Row::Operation(0o677, "TSON"),
+            Row::NoOperation(0),
+            Row::NoOperation(0o37),
+            Row::NoOperation(0o46),
+            Row::NoOperation(0o50),
+            Row::NoOperation(0o132),
+            Row::NoOperation(0o140),
+            Row::NoOperation(0o177),
+            Row::NoOperation(0o234),
+            Row::NoOperation(0o244),
+            Row::NoOperation(0o247),
+            Row::NoOperation(0o257),
+            Row::NoOperation(0o700),
+            Row::NoOperation(0o777),
+            Row::NoOperation(0o1000),
+            // 2 calls, 5 of bytes, 16 moves, 12 of multiplying and dividing, 6 shifts with JFFO, 7 from EXCH
+            // to XCT, 8 from PUSHJ to JRA, 8 sums, and 64 comparisons, Booleans, halves and tests each; 28 calls
+            Row::NameCount(2 + 5 + 16 + 12 + 6 + 7 + 8 + 8 + 4 * 64 + 28),
+        ],
+    },
+    Table {
+        name: "calls_by_name",
+        rows: &[
+            Row::Call("RESET", (0o047000, 0), true, false),
+            Row::Call("ENQ.", (0o047000, 0o151), true, false),
+            Row::Call("DATRD.", (0o047000, 0o777776), true, false),
+            Row::Call("DATWR.", (0o047000, 0o777775), true, false),
+            Row::Call("MONRT.", (0o047040, 0o12), false, false),
+            Row::Call("INCHRW", (0o051000, 0), false, true),
+            Row::Call("OUTSTR", (0o051140, 0), false, true),
+            Row::Call("SKPINL", (0o051600, 0), false, true),
+            Row::Call("HALT", (0o254200, 0), false, true),
+            Row::Call("JRSTF", (0o254100, 0), false, true),
+            Row::NoName(""),
+            Row::NoName("A"),
+            Row::NoName("MOV"),
+            Row::NoName("MOVEE"),
+            Row::NoName("move"),
+            Row::NoName("ENQ"),
+            Row::NoName("ENQ.X"),
+            Row::NoName("MOVE "),
+            Row::NoName("ZZZZZZ"),
+            Row::NoName("END"),
+        ],
+    },
+    Table {
+        name: "words_as_lines",
+        rows: &[
+            Row::Line((0o201040, 5), "MOVEI 1,5"),
+            Row::Line((0o047040, 0o151), "CALLI 1,151"),
+            Row::Line((0o254000, 0o140), "JRST 140"),
+            Row::Line((0o051140, 0o143), "TTCALL 3,143"),
+            Row::Line((0o550057, 4), "HRRZ 1,4(17)"),
+            Row::Line((0o350020, 0), "AOS @0"),
+            Row::Line((0o051777, 0o777777), "TTCALL 17,@777777(17)"),
+            Row::Line((0, 0), "XWD 0,0"),
+            Row::Line((0o777777, 0o777777), "XWD 777777,777777"),
+            Row::Line((0o000001, 0o10), "XWD 1,10"),
+            Row::Line((0o442220, 0), "ANDCBM 4,@0"),
+        ],
+    },
+];
+
+#[test]
+fn tables_hold(rt: HostRuntime) {
+    for table in &TABLES {
+        walk(&rt, table.name, table.rows);
+    }
 }

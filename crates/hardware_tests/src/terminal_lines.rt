@@ -1,34 +1,285 @@
 //! Terminal lines at their limits.
 
-use std::test::Fail;
+use crate::terminal_lines::Act::{
+    ClearsInput, ClearsOutput, Gets, GetsLetters, HasChar, HasLine, PutsLetters, PutsTwo, Room,
+    Takes, TypesLetters,
+};
+use crate::terminal_lines::Row::{At, NoLine, Restarts, Types};
+use std::alloc::{AllocError, Global};
+use std::process::Abort;
 use tty_lines::{Char7, LineError, LineNumber, Lines};
 use word36::{LINES, OUTPUT_RING};
 
-/// The characters A, B, C and so on, round again after 26.
-fn letters<const N: usize>() -> [Char7; N] {
-    std::array::from_fn(|i| Char7::new((i % 26) as u8 + b'A'))
+/// Something that is done with the lines and what it answers.
+enum Row {
+    /// A character is typed at a line of this number, or why it is not.
+    Types(u8, u8, Result<(), LineError>),
+    /// There is no line of this number, from which anything could be taken.
+    NoLine(u8),
+    /// Something is done at a line, or seen of it.
+    At(u8, Act),
+    /// At each line a character is typed and five letters are put out; then all is cleared, and nothing is there.
+    Restarts,
 }
 
+/// Something that is done at a line, or seen of it. Letters are A, B, C and so on, round again after 26.
+enum Act {
+    /// So many letters are typed one by one: a character is there behind each, and a line is not before it.
+    TypesLetters(usize),
+    /// The oldest so many characters that were typed are letters.
+    GetsLetters(usize),
+    /// The oldest character that was typed, if there is one.
+    Gets(Option<u8>),
+    /// Whether there is a character.
+    HasChar(bool),
+    /// Whether there is a line.
+    HasLine(bool),
+    /// A text of so many letters is put out.
+    PutsLetters(usize),
+    /// A text of two characters is put out, or why it is not.
+    PutsTwo(Result<(), LineError>),
+    /// At most so many characters are taken from the output: the letters from a position on, so many.
+    Takes(usize, usize, usize),
+    /// So many places of the output are free.
+    Room(usize),
+    ClearsInput,
+    ClearsOutput,
+}
+
+/// The rows of a table, and its name.
+struct Table {
+    name: &'static str,
+    rows: &'static [Row],
+}
+
+/// The letter at a position.
+fn letter(i: usize) -> Char7 {
+    Char7::new((i % 26) as u8 + b'A')
+}
+
+/// A text of so many letters.
+fn letters(alloc: Global, count: usize) -> Result<Vec<Char7>, AllocError> {
+    let mut text = Vec::new(alloc);
+    for i in 0..count {
+        text.push(letter(i))?;
+    }
+    Ok(text)
+}
+
+/// Whether so many letters can be typed, a character is there behind each, and a line is not before it.
+fn types_letters(lines: &mut Lines, line: LineNumber, count: usize) -> bool {
+    for i in 0..count {
+        let has_line = lines.has_line(line);
+        if has_line || lines.typed(line.number(), letter(i)).is_err() || !lines.has_char(line) {
+            return false;
+        }
+    }
+    true
+}
+
+/// Whether the oldest so many characters that were typed are letters.
+fn gets_letters(lines: &mut Lines, line: LineNumber, count: usize) -> bool {
+    for i in 0..count {
+        if lines.get(line) != Some(letter(i)) {
+            return false;
+        }
+    }
+    true
+}
+
+/// Whether a character is this one, or there is none.
+fn is_character(c: Option<Char7>, wanted: Option<u8>) -> bool {
+    match (c, wanted) {
+        (Some(c), Some(wanted)) => c.number() == wanted,
+        (None, None) => true,
+        _ => false,
+    }
+}
+
+/// Whether a text of so many letters can be put out.
+fn puts_letters(lines: &mut Lines, alloc: Global, line: LineNumber, count: usize) -> bool {
+    match letters(alloc, count) {
+        Ok(text) => lines.put(line, text.as_slice()).is_ok(),
+        Err(_) => false,
+    }
+}
+
+/// Whether so many letters from a position on are taken where at most so many are asked for.
+fn takes(lines: &mut Lines, line: LineNumber, most: usize, from: usize, count: usize) -> bool {
+    let Ok(taken) = lines.taken(line.number(), most) else {
+        return false;
+    };
+    for (i, c) in taken.as_slice().iter().enumerate() {
+        if *c != letter(from.saturating_add(i)) {
+            return false;
+        }
+    }
+    taken.as_slice().len() == count
+}
+
+/// Whether something is at each line, and nothing once all is cleared.
+fn restarts(lines: &mut Lines, alloc: Global) -> bool {
+    for number in 0..LINES {
+        let line = LineNumber::new(number);
+        if lines.typed(number, Char7::new(0o12)).is_err() || !puts_letters(lines, alloc, line, 5) {
+            return false;
+        }
+    }
+    lines.clear();
+    for number in 0..LINES {
+        let line = LineNumber::new(number);
+        if lines.has_char(line) || lines.room(line) != OUTPUT_RING {
+            return false;
+        }
+    }
+    true
+}
+
+impl Act {
+    /// Whether it holds of a line.
+    fn holds(&self, lines: &mut Lines, alloc: Global, line: LineNumber) -> bool {
+        match self {
+            Act::TypesLetters(count) => types_letters(lines, line, *count),
+            Act::GetsLetters(count) => gets_letters(lines, line, *count),
+            Act::Gets(wanted) => is_character(lines.get(line), *wanted),
+            Act::HasChar(there) => lines.has_char(line) == *there,
+            Act::HasLine(there) => lines.has_line(line) == *there,
+            Act::PutsLetters(count) => puts_letters(lines, alloc, line, *count),
+            Act::PutsTwo(answer) => {
+                lines.put(line, &[Char7::new(b'?'), Char7::new(b'!')]) == *answer
+            }
+            Act::Takes(most, from, count) => takes(lines, line, *most, *from, *count),
+            Act::Room(count) => lines.room(line) == *count,
+            Act::ClearsInput => {
+                lines.clear_input(line);
+                true
+            }
+            Act::ClearsOutput => {
+                lines.clear_output(line);
+                true
+            }
+        }
+    }
+}
+
+impl Row {
+    /// Whether the row holds of lines.
+    fn holds(&self, lines: &mut Lines, alloc: Global) -> bool {
+        match self {
+            Row::Types(line, c, answer) => {
+                lines.typed(*line, Char7::low_bits(u64::from(*c))) == *answer
+            }
+            Row::NoLine(line) => {
+                LineNumber::try_new(*line).is_none()
+                    && matches!(lines.taken(*line, 1), Err(LineError::NoLine))
+            }
+            Row::At(line, act) => match LineNumber::try_new(*line) {
+                Some(line) => act.holds(lines, alloc, line),
+                None => false,
+            },
+            Row::Restarts => restarts(lines, alloc),
+        }
+    }
+}
+
+/// Walks the rows of a table on new lines: each must hold.
+fn walk(rt: &impl Abort, alloc: Global, table: &Table) {
+    let mut lines = Lines::new(alloc).expect(rt, "memory for the lines");
+    for (i, row) in table.rows.iter().enumerate() {
+        assert!(rt; row.holds(&mut lines, alloc), "{}, row {i}", table.name);
+    }
+}
+
+const FULL: Result<(), LineError> = Err(LineError::Full);
+
+const NO_LINE: Result<(), LineError> = Err(LineError::NoLine);
+
+static TABLES: [Table; 6] = [
+    // A full ring may be read.
+    Table {
+        name: "input_holds_128_characters_in_order",
+        rows: &[
+            At(3, TypesLetters(128)),
+            At(3, HasLine(true)),
+            Types(3, b'!', FULL),
+            At(2, HasChar(false)),
+            At(4, HasChar(false)),
+            At(3, GetsLetters(128)),
+            At(3, Gets(None)),
+        ],
+    },
+    Table {
+        name: "break_in_the_middle_makes_a_line",
+        rows: &[
+            Types(0, b'H', Ok(())),
+            Types(0, b'I', Ok(())),
+            Types(0, 0o12, Ok(())),
+            Types(0, b'?', Ok(())),
+            At(0, HasLine(true)),
+            At(0, Gets(Some(b'H'))),
+            At(0, HasLine(true)),
+            At(0, Gets(Some(b'I'))),
+            At(0, HasLine(true)),
+            At(0, Gets(Some(0o12))),
+            At(0, HasLine(false)),
+            At(0, Gets(Some(b'?'))),
+            Types(0, 0o33, Ok(())),
+            At(0, HasLine(true)),
+            At(0, ClearsInput),
+            At(0, HasChar(false)),
+            At(0, HasLine(false)),
+        ],
+    },
+    Table {
+        name: "text_is_put_whole_or_not_at_all",
+        rows: &[
+            At(LINES - 1, PutsLetters(511)),
+            At(LINES - 1, PutsTwo(FULL)),
+            At(LINES - 1, Room(1)),
+            At(LINES - 1, Takes(1, 0, 1)),
+            At(LINES - 1, PutsTwo(Ok(()))),
+            At(LINES - 1, Room(0)),
+            At(LINES - 1, PutsLetters(0)),
+            At(LINES - 1, ClearsOutput),
+            At(LINES - 1, Room(OUTPUT_RING)),
+        ],
+    },
+    Table {
+        name: "at_most_64_characters_are_taken",
+        rows: &[
+            At(0, PutsLetters(200)),
+            At(0, Takes(0, 0, 0)),
+            At(0, Takes(1, 0, 1)),
+            At(0, Takes(64, 1, 64)),
+            At(0, Takes(65, 65, 64)),
+            At(0, Takes(usize::MAX, 129, 64)),
+            At(0, Takes(64, 193, 7)),
+            At(0, Takes(9, 200, 0)),
+        ],
+    },
+    Table {
+        name: "other_lines_are_refused",
+        rows: &[
+            Types(LINES - 1, b'X', Ok(())),
+            At(LINES - 1, Gets(Some(b'X'))),
+            Types(LINES, b'X', NO_LINE),
+            NoLine(LINES),
+            Types(u8::MAX, b'X', NO_LINE),
+            NoLine(u8::MAX),
+        ],
+    },
+    Table {
+        name: "restart_forgets_all",
+        rows: &[Restarts],
+    },
+];
+
 #[test]
-fn input_holds_128_characters_in_order(rt: HostRuntime) -> Result<(), Fail> {
-    let mut lines = Lines::new(rt.alloc())?;
-    let line = LineNumber::new(3);
-    let typed = letters::<128>();
-    for c in &typed {
-        assert!(rt; !lines.has_line(line));
-        lines.typed(3, *c)?;
-        assert!(rt; lines.has_char(line));
+fn tables_hold(rt: HostRuntime) {
+    for table in &TABLES {
+        walk(&rt, rt.alloc(), table);
     }
-    assert!(rt; lines.has_line(line), "a full ring may be read");
-    assert_eq!(rt; lines.typed(3, Char7::new(b'!')), Err(LineError::Full));
-    for beside in [2, 4] {
-        assert!(rt; !lines.has_char(LineNumber::new(beside)));
-    }
-    for c in &typed {
-        assert_eq!(rt; lines.get(line), Some(*c));
-    }
-    assert_eq!(rt; lines.get(line), None);
-    Ok(())
+    assert_eq!(rt; (LineError::NoLine.code(), LineError::Full.code()), (1, 2));
 }
 
 #[test]
@@ -41,102 +292,8 @@ fn six_characters_end_a_line(rt: HostRuntime) {
 }
 
 #[test]
-fn break_in_the_middle_makes_a_line(rt: HostRuntime) -> Result<(), Fail> {
-    let mut lines = Lines::new(rt.alloc())?;
-    let line = LineNumber::new(0);
-    for number in [b'H', b'I', 0o12, b'?'] {
-        lines.typed(0, Char7::low_bits(number as u64))?;
-    }
-    for has_line in [true, true, true, false] {
-        assert_eq!(rt; lines.has_line(line), has_line);
-        lines.get(line);
-    }
-    lines.typed(0, Char7::new(0o33))?;
-    lines.clear_input(line);
-    assert!(rt; !lines.has_char(line) && !lines.has_line(line));
-    Ok(())
-}
-
-#[test]
-fn text_is_put_whole_or_not_at_all(rt: HostRuntime) -> Result<(), Fail> {
-    let mut lines = Lines::new(rt.alloc())?;
-    let line = LineNumber::new(LINES - 1);
-    lines.put(line, &letters::<511>())?;
-    let two = [Char7::new(b'?'), Char7::new(b'!')];
-    assert_eq!(rt; lines.put(line, &two), Err(LineError::Full));
-    assert_eq!(rt; lines.room(line), 1);
-    assert_eq!(rt;
-        lines.taken(LINES - 1, 1)?.as_slice(),
-        [Char7::new(b'A')].as_slice()
-    );
-    lines.put(line, &two)?;
-    assert_eq!(rt; lines.room(line), 0);
-    lines.put(line, &[])?;
-    lines.clear_output(line);
-    assert_eq!(rt; lines.room(line), OUTPUT_RING);
-    Ok(())
-}
-
-#[test]
-fn at_most_64_characters_are_taken(rt: HostRuntime) -> Result<(), Fail> {
-    let mut lines = Lines::new(rt.alloc())?;
-    let text = letters::<200>();
-    let mut rest = text.as_slice();
-    lines.put(LineNumber::new(0), rest)?;
-    for (asked, got) in [
-        (0, 0),
-        (1, 1),
-        (64, 64),
-        (65, 64),
-        (usize::MAX, 64),
-        (64, 7),
-        (9, 0),
-    ] {
-        let taken = lines.taken(0, asked)?;
-        assert_eq!(rt; taken.as_slice().len(), got, "at {asked}");
-        assert!(rt; got <= rest.len());
-        assert_eq!(rt; taken.as_slice(), &rest[..got]);
-        rest = &rest[got..];
-    }
-    Ok(())
-}
-
-#[test]
-fn other_lines_are_refused(rt: HostRuntime) -> Result<(), Fail> {
-    let mut lines = Lines::new(rt.alloc())?;
-    let c = Char7::new(b'X');
-    lines.typed(LINES - 1, c)?;
-    assert_eq!(rt; lines.get(LineNumber::new(LINES - 1)), Some(c));
-    for line in [LINES, u8::MAX] {
-        assert_eq!(rt; lines.typed(line, c), Err(LineError::NoLine));
-        assert!(rt; matches!(lines.taken(line, 1), Err(LineError::NoLine)));
-        assert_eq!(rt; LineNumber::try_new(line), None);
-    }
-    assert_eq!(rt; (LineError::NoLine.code(), LineError::Full.code()), (1, 2));
-    Ok(())
-}
-
-#[test]
-fn restart_forgets_all(rt: HostRuntime) -> Result<(), Fail> {
-    let mut lines = Lines::new(rt.alloc())?;
-    for number in 0..LINES {
-        let line = LineNumber::new(number);
-        lines.typed(line.number(), Char7::new(0o12))?;
-        lines.put(line, &letters::<5>())?;
-    }
-    lines.clear();
-    for number in 0..LINES {
-        let line = LineNumber::new(number);
-        assert!(rt; !lines.has_char(line));
-        assert_eq!(rt; lines.room(line), OUTPUT_RING);
-    }
-    Ok(())
-}
-
-#[test]
-fn characters_have_seven_bits(rt: HostRuntime) -> Result<(), Fail> {
-    assert_eq!(rt; Char7::try_new(0o177).ok_or("seven bits")?.number(), 127);
-    assert_eq!(rt; Char7::try_new(0o200), None);
+fn characters_have_seven_bits(rt: HostRuntime) {
+    assert!(rt; is_character(Char7::try_new(0o177), Some(127)));
+    assert!(rt; Char7::try_new(0o200).is_none());
     assert_eq!(rt; Char7::low_bits(0o400_000_000_301).number(), b'A');
-    Ok(())
 }

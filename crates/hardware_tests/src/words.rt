@@ -142,109 +142,106 @@ impl Row {
     }
 }
 
-/// Walks rows: each must hold.
-fn walk(rt: &impl Abort, rows: &[Row]) {
+/// The rows of a table, and its name.
+struct Table {
+    name: &'static str,
+    rows: &'static [Row],
+}
+
+/// Walks the rows of a table of this name: each must hold.
+fn walk(rt: &impl Abort, name: &str, rows: &[Row]) {
     for (i, row) in rows.iter().enumerate() {
-        assert!(rt; row.holds(), "row {i}");
+        assert!(rt; row.holds(), "{name}, row {i}");
     }
 }
 
-/// The rows of `words_and_places_are_printed`.
-static WORDS_AND_PLACES: [Row; 9] = [
-    Row::Text(ZERO, "000000,,000000"),
-    Row::Text((0o254000, 0o140), "254000,,000140"),
-    Row::Text((0o12, 0o700000), "000012,,700000"),
-    Row::Text(ONES, "777777,,777777"),
-    Row::PlaceText(0, "000000"),
-    Row::PlaceText(0o140, "000140"),
-    Row::PlaceText(0o777777, "777777"),
-    Row::NoPlace(0o1_000_000),
-    Row::Plus(0o777777, 2, 1),
-];
-
-#[test]
-fn words_and_places_are_printed(rt: HostRuntime) {
-    walk(&rt, &WORDS_AND_PLACES);
-}
-
-/// The rows of `numbers_are_printed_without_leading_zeros`.
-static NUMBERS: [Row; 7] = [
-    Row::Digits(0, "0"),
-    Row::Digits(7, "7"),
-    Row::Digits(8, "10"),
-    Row::Digits(0o777, "777"),
-    Row::Digits(0o1000, "1000"),
-    Row::Digits(1 << 63, "1000000000000000000000"),
-    Row::Digits(u64::MAX, "1777777777777777777777"),
-];
-
-#[test]
-fn numbers_are_printed_without_leading_zeros(rt: HostRuntime) {
-    walk(&rt, &NUMBERS);
-}
-
-/// The rows of `names_are_packed`.
-static NAMES: [Row; 10] = [
-    Row::Packed(b"", Some(ZERO)),
-    Row::Packed(b"A", Some((0o410000, 0))),
-    Row::Packed(b"LPT0", Some((0o546064, 0o200000))),
-    Row::Packed(b"SYSTAT", Some((0o637163, 0o644164))),
-    Row::Packed(b"      ", Some(ZERO)),
-    Row::Packed(b"______", Some(ONES)),
-    Row::Packed(b"LOCKMON", None),
-    Row::Packed(b"a", None),
-    Row::Packed(b"AB\x60", None),
-    Row::Packed(b"\x1F", None),
-];
-
-#[test]
-fn names_are_packed(rt: HostRuntime) {
-    walk(&rt, &NAMES);
-}
-
-/// The word of `halves_and_values`.
+/// A word of the table `halves_and_values`.
 const WORD: Halves = (0o123456, 0o654321);
 
-/// The rows of `halves_and_values`.
-static HALVES_AND_VALUES: [Row; 11] = [
-    Row::Parts(WORD),
-    Row::Makes(Made::Swapped(WORD), (0o654321, 0o123456)),
-    Row::Makes(Made::WithLeft(WORD, 0), (0, 0o654321)),
-    Row::Makes(Made::WithRight(WORD, 1), (0o123456, 1)),
-    Row::Value(LEAST, -0o400_000_000_000),
-    Row::Value(ONES, -1),
-    Row::Value(ZERO, 0),
-    Row::Value(GREATEST, 0o377_777_777_777),
-    Row::NoValue(-0o400_000_000_001),
-    Row::NoValue(0o400_000_000_000),
-    Row::Makes(Made::LowBits(u64::MAX), ONES),
-];
-
-#[test]
-fn halves_and_values(rt: HostRuntime) {
-    walk(&rt, &HALVES_AND_VALUES);
-}
-
-/// The words of the four last rows of `bits_and_carries`.
+/// The words of the four last rows of the table `bits_and_carries`.
 const A: Halves = (0o707070, 0o525252);
 
 const B: Halves = (0o770077, 0o252525);
 
-/// The rows of `bits_and_carries`.
-static BITS_AND_CARRIES: [Row; 10] = [
-    Row::Sum(GREATEST, ONE, false, LEAST, (false, true)),
-    Row::Sum(ONES, ONE, false, ZERO, (true, true)),
-    Row::Sum(ONES, ZERO, true, ZERO, (true, true)),
-    Row::Sum(LEAST, LEAST, false, ZERO, (true, false)),
-    Row::Sum(LEAST, LEAST, true, ONE, (true, false)),
-    Row::Sum(ONE, ONE, true, (0, 3), (false, false)),
-    Row::Makes(Made::And(A, B), (0o700070, 0)),
-    Row::Makes(Made::Or(A, B), (0o777077, 0o777777)),
-    Row::Makes(Made::Xor(A, B), (0o077007, 0o777777)),
-    Row::Makes(Made::Not(A), (0o070707, 0o252525)),
+/// All tables but those that have a test of their own.
+static TABLES: [Table; 5] = [
+    Table {
+        name: "words_and_places_are_printed",
+        rows: &[
+            Row::Text(ZERO, "000000,,000000"),
+            Row::Text((0o254000, 0o140), "254000,,000140"),
+            Row::Text((0o12, 0o700000), "000012,,700000"),
+            Row::Text(ONES, "777777,,777777"),
+            Row::PlaceText(0, "000000"),
+            Row::PlaceText(0o140, "000140"),
+            Row::PlaceText(0o777777, "777777"),
+            Row::NoPlace(0o1_000_000),
+            Row::Plus(0o777777, 2, 1),
+        ],
+    },
+    Table {
+        name: "numbers_are_printed_without_leading_zeros",
+        rows: &[
+            Row::Digits(0, "0"),
+            Row::Digits(7, "7"),
+            Row::Digits(8, "10"),
+            Row::Digits(0o777, "777"),
+            Row::Digits(0o1000, "1000"),
+            Row::Digits(1 << 63, "1000000000000000000000"),
+            Row::Digits(u64::MAX, "1777777777777777777777"),
+        ],
+    },
+    Table {
+        name: "names_are_packed",
+        rows: &[
+            Row::Packed(b"", Some(ZERO)),
+            Row::Packed(b"A", Some((0o410000, 0))),
+            Row::Packed(b"LPT0", Some((0o546064, 0o200000))),
+            Row::Packed(b"SYSTAT", Some((0o637163, 0o644164))),
+            Row::Packed(b"      ", Some(ZERO)),
+            Row::Packed(b"______", Some(ONES)),
+            Row::Packed(b"LOCKMON", None),
+            Row::Packed(b"a", None),
+            Row::Packed(b"AB\x60", None),
+            Row::Packed(b"\x1F", None),
+        ],
+    },
+    Table {
+        name: "halves_and_values",
+        rows: &[
+            Row::Parts(WORD),
+            Row::Makes(Made::Swapped(WORD), (0o654321, 0o123456)),
+            Row::Makes(Made::WithLeft(WORD, 0), (0, 0o654321)),
+            Row::Makes(Made::WithRight(WORD, 1), (0o123456, 1)),
+            Row::Value(LEAST, -0o400_000_000_000),
+            Row::Value(ONES, -1),
+            Row::Value(ZERO, 0),
+            Row::Value(GREATEST, 0o377_777_777_777),
+            Row::NoValue(-0o400_000_000_001),
+            Row::NoValue(0o400_000_000_000),
+            Row::Makes(Made::LowBits(u64::MAX), ONES),
+        ],
+    },
+    Table {
+        name: "bits_and_carries",
+        rows: &[
+            Row::Sum(GREATEST, ONE, false, LEAST, (false, true)),
+            Row::Sum(ONES, ONE, false, ZERO, (true, true)),
+            Row::Sum(ONES, ZERO, true, ZERO, (true, true)),
+            Row::Sum(LEAST, LEAST, false, ZERO, (true, false)),
+            Row::Sum(LEAST, LEAST, true, ONE, (true, false)),
+            Row::Sum(ONE, ONE, true, (0, 3), (false, false)),
+            Row::Makes(Made::And(A, B), (0o700070, 0)),
+            Row::Makes(Made::Or(A, B), (0o777077, 0o777777)),
+            Row::Makes(Made::Xor(A, B), (0o077007, 0o777777)),
+            Row::Makes(Made::Not(A), (0o070707, 0o252525)),
+        ],
+    },
 ];
 
 #[test]
-fn bits_and_carries(rt: HostRuntime) {
-    walk(&rt, &BITS_AND_CARRIES);
+fn tables_hold(rt: HostRuntime) {
+    for table in &TABLES {
+        walk(&rt, table.name, table.rows);
+    }
 }

@@ -4,9 +4,9 @@ use crate::build::Call;
 use crate::build::Call::{Asks, Changes, GivesUp};
 use crate::build::Lock::{Alone, Grouped, OfPool, Shared};
 use crate::build::Locks::{One, Two};
-use crate::trial::walk;
-use crate::walk::Row;
+use crate::two_tables::{walk, walk_all};
 use crate::walk::Row::{Calls, Granted, Grants, Status};
+use crate::walk::{Row, Table};
 use lock_queue::EnqueueKind::{Blocking, Interrupt};
 use lock_queue::LockReply::{Done, Granted as Owned, Queued};
 use lock_queue::{LockReply, Refusal};
@@ -25,29 +25,6 @@ const ABSENT: LockReply = LockReply::Refused(Refusal::NotPresent);
 
 /// Two locks are changed for oneself.
 const BOTH: Call = Changes(Two(Alone(X, 0), Alone(Y, 0)));
-
-/// The rows of `change_of_two_locks_is_made_whole_or_not_at_all`.
-static CHANGE_OF_TWO_LOCKS_IS_MADE_WHOLE_OR_NOT_AT_ALL: [Row; 9] = [
-    Calls(1, Asks(Blocking, 1, Two(Shared(X, 0), Shared(Y, 1))), Owned),
-    Calls(2, Asks(Blocking, 2, One(Shared(Y, 1))), Owned),
-    Grants(1, BOTH, LOST, &[]),
-    Status(1, X, [0o200000_000001, 0o000001_000000, 0]),
-    Status(1, Y, [0o200001_000001, 0o000002_000000, 0]),
-    Calls(2, GivesUp(One(Alone(Y, 0))), Done),
-    Grants(1, BOTH, Done, &[]),
-    Status(1, X, [0o240000_000001, 0o000001_000000, 0]),
-    Status(1, Y, [0o240001_000001, 0o000001_000000, 0]),
-];
-
-/// The second of two locks cannot be had alone, so the first stays shared too.
-#[test]
-fn change_of_two_locks_is_made_whole_or_not_at_all(rt: HostRuntime) {
-    walk(
-        &rt,
-        rt.alloc(),
-        &CHANGE_OF_TWO_LOCKS_IS_MADE_WHOLE_OR_NOT_AT_ALL,
-    );
-}
 
 /// Two locks are asked for.
 const ASK: Call = Asks(Blocking, 1, Two(Alone(X, 0), Alone(Y, 1)));
@@ -91,42 +68,58 @@ fn change_of_two_locks_lets_a_request_of_both_in(rt: HostRuntime) {
     walk(&rt, rt.alloc(), &BY_ONE_CALL);
 }
 
-/// The rows of `change_of_a_waiter_moves_those_behind_it`.
-static CHANGE_OF_A_WAITER_MOVES_THOSE_BEHIND_IT: [Row; 9] = [
-    Calls(1, Asks(Blocking, 1, One(Shared(X, 0))), Owned),
-    Calls(2, Asks(Interrupt, 2, One(Alone(X, 0))), LATER),
-    Calls(3, Asks(Interrupt, 3, One(Shared(X, 0))), LATER),
-    Grants(2, Changes(One(Shared(X, 0))), Done, &[(2, 2), (3, 3)]),
-    Grants(2, Changes(One(Alone(X, 0))), LOST, &[]),
-    Calls(1, GivesUp(One(Alone(X, 0))), Done),
-    Grants(2, Changes(One(Alone(X, 0))), LOST, &[]),
-    Grants(3, Changes(One(Alone(X, 0))), LOST, &[]),
-    Granted(&[2, 3]),
+/// The tables that are walked on a new pair of tables each.
+static TABLES: [Table; 3] = [
+    // The second of two locks cannot be had alone, so the first stays shared too.
+    Table {
+        name: "change_of_two_locks_is_made_whole_or_not_at_all",
+        rows: &[
+            Calls(1, Asks(Blocking, 1, Two(Shared(X, 0), Shared(Y, 1))), Owned),
+            Calls(2, Asks(Blocking, 2, One(Shared(Y, 1))), Owned),
+            Grants(1, BOTH, LOST, &[]),
+            Status(1, X, [0o200000_000001, 0o000001_000000, 0]),
+            Status(1, Y, [0o200001_000001, 0o000002_000000, 0]),
+            Calls(2, GivesUp(One(Alone(Y, 0))), Done),
+            Grants(1, BOTH, Done, &[]),
+            Status(1, X, [0o240000_000001, 0o000001_000000, 0]),
+            Status(1, Y, [0o240001_000001, 0o000001_000000, 0]),
+        ],
+    },
+    // A waiter that no longer shares keeps the one behind it out, and lets it in again.
+    Table {
+        name: "change_of_a_waiter_moves_those_behind_it",
+        rows: &[
+            Calls(1, Asks(Blocking, 1, One(Shared(X, 0))), Owned),
+            Calls(2, Asks(Interrupt, 2, One(Alone(X, 0))), LATER),
+            Calls(3, Asks(Interrupt, 3, One(Shared(X, 0))), LATER),
+            Grants(2, Changes(One(Shared(X, 0))), Done, &[(2, 2), (3, 3)]),
+            Grants(2, Changes(One(Alone(X, 0))), LOST, &[]),
+            Calls(1, GivesUp(One(Alone(X, 0))), Done),
+            Grants(2, Changes(One(Alone(X, 0))), LOST, &[]),
+            Grants(3, Changes(One(Alone(X, 0))), LOST, &[]),
+            Granted(&[2, 3]),
+        ],
+    },
+    // A lock that stays shared keeps its group, one that becomes shared has none, and a pool is not shared.
+    Table {
+        name: "change_of_groups_and_pools",
+        rows: &[
+            Calls(1, Asks(Blocking, 1, One(Grouped(X, 3))), Owned),
+            Calls(1, Changes(One(Grouped(X, 7))), Done),
+            Calls(2, Asks(Blocking, 2, One(Grouped(X, 3))), Owned),
+            Calls(2, GivesUp(One(Alone(X, 0))), Done),
+            Calls(1, Changes(One(Alone(X, 0))), Done),
+            Calls(1, Changes(One(Grouped(X, 7))), Done),
+            Calls(2, Asks(Blocking, 2, One(Grouped(X, 7))), Queued),
+            Calls(3, Asks(Blocking, 3, One(OfPool(Y, 5, 2))), Owned),
+            Calls(3, Changes(One(Shared(Y, 0))), POOLED),
+            Calls(3, Changes(One(Alone(Y, 0))), Done),
+            Status(3, Y, [0o200000_000003, 0o000001_000000, 2]),
+        ],
+    },
 ];
 
-/// A waiter that no longer shares keeps the one behind it out, and lets it in again.
 #[test]
-fn change_of_a_waiter_moves_those_behind_it(rt: HostRuntime) {
-    walk(&rt, rt.alloc(), &CHANGE_OF_A_WAITER_MOVES_THOSE_BEHIND_IT);
-}
-
-/// The rows of `change_of_groups_and_pools`.
-static CHANGE_OF_GROUPS_AND_POOLS: [Row; 11] = [
-    Calls(1, Asks(Blocking, 1, One(Grouped(X, 3))), Owned),
-    Calls(1, Changes(One(Grouped(X, 7))), Done),
-    Calls(2, Asks(Blocking, 2, One(Grouped(X, 3))), Owned),
-    Calls(2, GivesUp(One(Alone(X, 0))), Done),
-    Calls(1, Changes(One(Alone(X, 0))), Done),
-    Calls(1, Changes(One(Grouped(X, 7))), Done),
-    Calls(2, Asks(Blocking, 2, One(Grouped(X, 7))), Queued),
-    Calls(3, Asks(Blocking, 3, One(OfPool(Y, 5, 2))), Owned),
-    Calls(3, Changes(One(Shared(Y, 0))), POOLED),
-    Calls(3, Changes(One(Alone(Y, 0))), Done),
-    Status(3, Y, [0o200000_000003, 0o000001_000000, 2]),
-];
-
-/// A lock that stays shared keeps its group, one that becomes shared has none, and a pool is not shared.
-#[test]
-fn change_of_groups_and_pools(rt: HostRuntime) {
-    walk(&rt, rt.alloc(), &CHANGE_OF_GROUPS_AND_POOLS);
+fn tables_hold(rt: HostRuntime) {
+    walk_all(&rt, rt.alloc(), &TABLES);
 }

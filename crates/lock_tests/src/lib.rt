@@ -3,13 +3,9 @@
 #![tactic(auto)]
 
 #[cfg(test)]
-mod alike;
-#[cfg(test)]
 mod build;
 #[cfg(test)]
 mod changes;
-#[cfg(test)]
-mod generated;
 #[cfg(test)]
 mod grants;
 #[cfg(test)]
@@ -25,6 +21,6 @@ mod shows;
 #[cfg(test)]
 mod told_apart;
 #[cfg(test)]
-mod trial;
+mod two_tables;
 #[cfg(test)]
 mod walk;

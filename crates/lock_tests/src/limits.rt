@@ -4,13 +4,13 @@ use crate::build::Call::{Asks, AsksUnarmed, AsksWithin, Changes, GivesUp, GivesU
 use crate::build::Lock::{Alone, Bypassing, Grouped, Shared};
 use crate::build::Locks::{One, Two};
 use crate::build::{Call, Locks};
-use crate::trial::Trial::Rows;
-use crate::trial::{on_both, walk};
-use crate::walk::Row;
+use crate::two_tables::Trial::Rows;
+use crate::two_tables::{on_both, walk, walk_all};
 use crate::walk::Row::{
     Calls, Code, Fills, FillsQuota, Granted as AreGranted, Grants, IsFull, Lists, Releases,
     Requests, WithdrawsAll,
 };
+use crate::walk::{Row, Table};
 use lock_queue::EnqueueKind::{AtOnce, Blocking, Interrupt};
 use lock_queue::LockReply::{Done, Granted, Queued};
 use lock_queue::{LockReply, Refusal};
@@ -38,7 +38,7 @@ const AGAIN: LockReply = LockReply::Refused(Refusal::NamedAlready);
 const LOST: LockReply = LockReply::Refused(Refusal::WouldLose);
 
 /// A table that one job fills takes no more, and one again when one has left.
-static FILLED: [Row; 7] = [
+pub static FILLED: [Row; 7] = [
     Fills(1),
     IsFull,
     Calls(1, NEXT, FULL),
@@ -47,12 +47,6 @@ static FILLED: [Row; 7] = [
     Calls(1, NEXT, Granted),
     Calls(1, FIRST, FULL),
 ];
-
-/// 256 requests of one job, each of which bypasses the rule of levels, and then one more.
-#[test]
-fn full_queue_takes_no_more(rt: HostRuntime) {
-    walk(&rt, rt.alloc(), &FILLED);
-}
 
 /// One request of a table of one is over the quota of its own job and finds the queue full of another's.
 static FULL_OF_ONE: [Row; 7] = [
@@ -68,10 +62,10 @@ static FULL_OF_ONE: [Row; 7] = [
 /// The least and the greatest tables.
 #[test]
 fn limits_table(rt: HostRuntime) {
-    on_both::<1>(&rt, rt.alloc(), Rows(&FILLED));
-    on_both::<1>(&rt, rt.alloc(), Rows(&FULL_OF_ONE));
-    on_both::<2>(&rt, rt.alloc(), Rows(&FILLED));
-    on_both::<MOST_REQUESTS>(&rt, rt.alloc(), Rows(&FILLED));
+    on_both::<1>(&rt, rt.alloc(), Rows("FILLED", &FILLED));
+    on_both::<1>(&rt, rt.alloc(), Rows("FULL_OF_ONE", &FULL_OF_ONE));
+    on_both::<2>(&rt, rt.alloc(), Rows("FILLED", &FILLED));
+    on_both::<MOST_REQUESTS>(&rt, rt.alloc(), Rows("FILLED", &FILLED));
 }
 
 /// The rows of `full_table_is_called`.
@@ -106,7 +100,11 @@ static FULL_TABLE_IS_CALLED: [Row; 25] = [
 /// Of a full table: which code comes before that of the full queue, and what can still be done.
 #[test]
 fn full_table_is_called(rt: HostRuntime) {
-    on_both::<2>(&rt, rt.alloc(), Rows(&FULL_TABLE_IS_CALLED));
+    on_both::<2>(
+        &rt,
+        rt.alloc(),
+        Rows("FULL_TABLE_IS_CALLED", &FULL_TABLE_IS_CALLED),
+    );
 }
 
 /// The rows of `quotas`.
@@ -140,19 +138,6 @@ fn quotas(rt: HostRuntime) {
     walk(&rt, rt.alloc(), &QUOTAS);
 }
 
-/// The rows of `quota_of_a_new_job`.
-static QUOTA_OF_A_NEW_JOB: [Row; 3] = [
-    FillsQuota(1, 64),
-    Code(1, AsksWithin(64, AtOnce, 0, One(Bypassing(0, 0))), 16),
-    Requests(64),
-];
-
-/// A job that was just logged in has as many requests as it may have.
-#[test]
-fn quota_of_a_new_job(rt: HostRuntime) {
-    walk(&rt, rt.alloc(), &QUOTA_OF_A_NEW_JOB);
-}
-
 /// The rows of `groups`.
 static GROUPS: [Row; 11] = [
     Calls(1, Asks(Blocking, 1, One(Grouped(5, 1))), Granted),
@@ -173,30 +158,44 @@ fn groups(rt: HostRuntime) {
     walk(&rt, rt.alloc(), &GROUPS);
 }
 
-/// The rows of `waits_end_together`.
-static WAITS_END_TOGETHER: [Row; 11] = [
-    Calls(1, Asks(Blocking, 1, One(Shared(5, 0))), Granted),
-    Calls(2, Asks(Blocking, 2, One(Alone(5, 0))), Queued),
-    Calls(3, Asks(Blocking, 3, One(Shared(5, 0))), Queued),
-    WithdrawsAll(1 << 2 | 1 << 3),
-    AreGranted(&[1]),
-    Requests(1),
-    Calls(2, Asks(Blocking, 2, One(Alone(5, 0))), Queued),
-    Calls(3, Asks(Blocking, 3, One(Shared(5, 0))), Queued),
-    WithdrawsAll(1 << 1 | 1 << 2),
-    AreGranted(&[1, 3]),
-    Requests(2),
-];
-
-#[test]
-fn waits_end_together(rt: HostRuntime) {
-    walk(&rt, rt.alloc(), &WAITS_END_TOGETHER);
-}
-
 /// The rows of `list_of_calls`.
 static LIST_OF_CALLS: [Row; 2] = [Lists, Requests(1)];
 
 #[test]
 fn list_of_calls(rt: HostRuntime) {
     walk(&rt, rt.alloc(), &LIST_OF_CALLS);
+}
+
+/// The tables that are walked on a new pair of tables each.
+static TABLES: [Table; 2] = [
+    // A job that was just logged in has as many requests as it may have.
+    Table {
+        name: "quota_of_a_new_job",
+        rows: &[
+            FillsQuota(1, 64),
+            Code(1, AsksWithin(64, AtOnce, 0, One(Bypassing(0, 0))), 16),
+            Requests(64),
+        ],
+    },
+    Table {
+        name: "waits_end_together",
+        rows: &[
+            Calls(1, Asks(Blocking, 1, One(Shared(5, 0))), Granted),
+            Calls(2, Asks(Blocking, 2, One(Alone(5, 0))), Queued),
+            Calls(3, Asks(Blocking, 3, One(Shared(5, 0))), Queued),
+            WithdrawsAll(1 << 2 | 1 << 3),
+            AreGranted(&[1]),
+            Requests(1),
+            Calls(2, Asks(Blocking, 2, One(Alone(5, 0))), Queued),
+            Calls(3, Asks(Blocking, 3, One(Shared(5, 0))), Queued),
+            WithdrawsAll(1 << 1 | 1 << 2),
+            AreGranted(&[1, 3]),
+            Requests(2),
+        ],
+    },
+];
+
+#[test]
+fn tables_hold(rt: HostRuntime) {
+    walk_all(&rt, rt.alloc(), &TABLES);
 }

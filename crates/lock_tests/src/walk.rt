@@ -1,6 +1,5 @@
-//! The rows of a test, and how they are walked on two tables.
+//! The rows of a test, and how they are walked on a table.
 
-use crate::alike::are_alike;
 use crate::build::Call::{Asks, AsksWithin, GivesUpId};
 use crate::build::Lock::Bypassing;
 use crate::build::Locks::One;
@@ -36,6 +35,8 @@ pub enum Row<'a> {
     Withdraws(u8),
     /// The requests by which the jobs of a set wait are taken out: job j where the bit of value 2^j is set.
     WithdrawsAll(u64),
+    /// They are taken out, and the grants that this makes.
+    WithdrawalGrants(u64, &'a [(u8, u32)]),
     /// A job is notified of its pending grant.
     Tells(u8),
     /// All requests are taken out.
@@ -54,6 +55,12 @@ pub enum Row<'a> {
     Pending(u8, Option<u32>),
     /// The three words that a job is given on a user code.
     Status(u8, u32, [u64; 3]),
+}
+
+/// The rows of a test, and its name.
+pub struct Table {
+    pub name: &'static str,
+    pub rows: &'static [Row<'static>],
 }
 
 /// What a call of a job answers; nothing where there is no such job.
@@ -132,6 +139,13 @@ fn release_grants<L: LockTable>(table: &mut L, job: u8, pairs: &[(u8, u32)]) -> 
     are_grants(&woken, pairs)
 }
 
+/// Whether these grants are made where the requests by which the jobs of a set wait are taken out.
+fn withdrawal_grants<L: LockTable>(table: &mut L, jobs: u64, pairs: &[(u8, u32)]) -> bool {
+    let mut woken = Woken::new();
+    table.withdraw_all_waking(jobs, &mut woken);
+    are_grants(&woken, pairs)
+}
+
 /// Whether the requests that are granted have these ids.
 fn are_granted<L: LockTable>(table: &L, ids: &[u32]) -> bool {
     let mut next = 0;
@@ -178,6 +192,7 @@ impl Row<'_> {
                 table.withdraw_all(*jobs);
                 true
             }
+            Row::WithdrawalGrants(jobs, pairs) => withdrawal_grants(table, *jobs, pairs),
             Row::Tells(job) => {
                 table.mark_notified(*job);
                 true
@@ -201,19 +216,5 @@ impl Row<'_> {
 pub fn walk_one<L: LockTable>(rt: &impl Abort, table: &mut L, rows: &[Row]) {
     for (i, row) in rows.iter().enumerate() {
         assert!(rt; row.holds(table), "row {i}");
-    }
-}
-
-/// Walks rows on two tables: each holds of both, and after it both are alike.
-pub fn walk_both<L: LockTable, M: LockTable>(
-    rt: &impl Abort,
-    plain: &mut L,
-    indexed: &mut M,
-    rows: &[Row],
-) {
-    for (i, row) in rows.iter().enumerate() {
-        assert!(rt; row.holds(plain), "row {i} on the plain table");
-        assert!(rt; row.holds(indexed), "row {i} on the indexed table");
-        assert!(rt; are_alike(plain, indexed), "behind row {i}");
     }
 }

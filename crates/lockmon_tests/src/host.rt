@@ -1,28 +1,16 @@
-//! Ports of the host that are interrupted, pass few bytes at once, have no room, or fail.
+//! Ports of the host that are interrupted, pass few bytes at once, take none, or fail.
 
 ghost use Rattle.std.specs.Prelude.{◌≤◌, IfOk, length};
 
 use crate::served::MANY;
 use queue_script::serve_queue;
 use script_io::{HostIn, HostOut, LentReader, LentWriter, Plan, ServeError, TestIn, TestOut};
-use std::alloc::Global;
 use std::io;
 use std::io::{ErrorKind, Read, Write};
-use std::process::Abort;
 
 const SCRIPT: &[u8] = b"ENQ 1 0 1 X\nENQ 2 0 2 X\nSTAT 2 X\nDEQ 1 0 X\n";
 
 const TEXT: &[u8] = b"OK\nWAIT\n140000,,000001 000001,,000001 000000,,000000\nOK\nGRANT 2 2\n";
-
-#[test]
-fn no_room(rt: HostRuntime) {
-    let mut room = [0u8; 5];
-    let mut reader = TestIn::new(SCRIPT, 100, MANY);
-    let mut writer = TestOut::new(&mut room, 100, MANY);
-    let answer = serve_queue(rt.alloc(), &mut reader, &mut writer);
-    assert_eq!(rt; answer, Err(ServeError::Write));
-    assert_eq!(rt; writer.as_slice(), &TEXT[..5]);
-}
 
 /// A port of the host that passes bytes by threes, is interrupted before each of them, and fails in
 /// the end where its field says so.
@@ -141,41 +129,5 @@ fn hosts_are_asked_until_they_answer(rt: HostRuntime) {
         let reads = calls_for(SCRIPT.len(), most).saturating_add(1);
         let tries = reads.saturating_mul(every.saturating_add(1));
         assert_eq!(rt; reader.reads_left, (1u64 << 63).saturating_sub(tries));
-    }
-}
-
-/// Lets a read of the script fail behind so many.
-fn fail_a_read(rt: &impl Abort, alloc: Global, most: usize, every: u64, calls: u64) {
-    let mut room = [0u8; 256];
-    let mut reader = HostIn::over(script_by(most, every, calls));
-    let plan = Plan::new(100, every, MANY);
-    let mut writer = HostOut::over(LentWriter::new(&mut room, plan));
-    let answer = serve_queue(alloc, &mut reader, &mut writer);
-    assert_eq!(rt; answer, Err(ServeError::Read), "read {calls}");
-    assert!(rt; TEXT.starts_with(writer.host.as_slice()), "read {calls}");
-}
-
-/// Lets a write of the text fail behind so many. All of the script comes at once, so all of the text goes at
-/// once.
-fn fail_a_write(rt: &impl Abort, alloc: Global, most: usize, every: u64, calls: u64) {
-    let mut room = [0u8; 256];
-    let mut reader = HostIn::over(script_by(1000, every, MANY));
-    let plan = Plan::new(most, every, calls);
-    let mut writer = HostOut::over(LentWriter::new(&mut room, plan));
-    let answer = serve_queue(alloc, &mut reader, &mut writer);
-    assert_eq!(rt; answer, Err(ServeError::Write), "write {calls}");
-    let passed = (calls as usize).saturating_mul(most).min(TEXT.len());
-    assert_eq!(rt; writer.host.as_slice(), &TEXT[..passed], "write {calls}");
-}
-
-#[test]
-fn hosts_that_fail_are_told(rt: HostRuntime) {
-    for (most, every) in PLANS {
-        for calls in 0..=calls_for(SCRIPT.len(), most) {
-            fail_a_read(&rt, rt.alloc(), most, every, calls);
-        }
-        for calls in 0..calls_for(TEXT.len(), most) {
-            fail_a_write(&rt, rt.alloc(), most, every, calls);
-        }
     }
 }

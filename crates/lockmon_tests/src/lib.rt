@@ -1,11 +1,9 @@
-//! Tests of `lockmon` that need its calls: ports that fail, pass few bytes at once, or are interrupted, lines that are
-//! generated, and words for which there was no memory. All else is tested by the files in `tests/`.
+//! Tests of `lockmon` that need its calls: ports that fail at each call or are interrupted, and a script that is cut after
+//! each byte. All else is tested by the files in `tests/` and the scripts in `.ci/`.
 #![tactic(auto)]
 
 #[cfg(test)]
 mod examples;
-#[cfg(test)]
-mod grammar;
 #[cfg(test)]
 mod host;
 #[cfg(test)]
@@ -14,5 +12,3 @@ mod lines;
 mod ports;
 #[cfg(test)]
 mod served;
-#[cfg(test)]
-mod unread_words;

@@ -3,7 +3,7 @@
 use crate::rows::Act::{Kill, Typed};
 use crate::rows::Reply::{Done, JobNumber, Refused};
 use crate::rows::Row::{Begins, Happens, Job, Loads, NoJob, Shared, Steps, Word};
-use crate::rows::{Table, Words, walk};
+use crate::rows::{Table, Words, walk, walk_all};
 use job_sched::{Stop, Wait};
 use ka_cpu::StopReason::{IllegalAddress, IllegalInstruction};
 use monitor::RefusedEvent::NoCore;
@@ -33,62 +33,11 @@ fn core_call(rt: HostRuntime) {
     walk(&rt, rt.alloc(), &CORE_CALL);
 }
 
-/// The rows of `core_is_refused`.
-static CORE_IS_REFUSED: Table = Table {
-    name: "core_is_refused",
-    blocks: 1,
-    quantum: 1,
-    rows: &[
-        Begins(0, GROWER, 1),
-        Steps(2, 2),
-        Job(1, 0o142, None, Wait::None),
-        Word(1, 1, Some(0)),
-        Word(1, 0o44, Some(0o1777)),
-        Word(1, 0o1777, Some(0)),
-        Word(1, 0o2000, None),
-    ],
-};
-
-#[test]
-fn core_is_refused(rt: HostRuntime) {
-    walk(&rt, rt.alloc(), &CORE_IS_REFUSED);
-}
-
 /// Two blocks, with a word at the end of each.
 const FILLED: Words = &[(0o140, 0o777777_777777), (0o1777, 5), (0o3777, 7)];
 
 /// Two blocks, with no word at the end of either.
 const TWO_BLOCKS: Words = &[(0o140, 1), (0o3776, 2)];
-
-/// A job fills its two blocks and goes; another takes the same blocks, and a third grows into one.
-static NEW_CORE_IS_ZERO: Table = Table {
-    name: "new_core_is_zero",
-    blocks: 3,
-    quantum: 1,
-    rows: &[
-        Loads(0, FILLED, JobNumber(1)),
-        Loads(1, TWO_BLOCKS, Refused(NoCore)),
-        Happens(Kill(1), Done),
-        NoJob(1),
-        Loads(1, TWO_BLOCKS, JobNumber(1)),
-        Word(1, 0o140, Some(1)),
-        Word(1, 0o1777, Some(0)),
-        Word(1, 0o3777, Some(0)),
-        Happens(Kill(1), Done),
-        Loads(1, FILLED, JobNumber(1)),
-        Happens(Kill(1), Done),
-        Begins(0, GROWER, 1),
-        Steps(2, 2),
-        Word(1, 1, Some(1)),
-        Word(1, 0o1777, Some(0)),
-        Word(1, 0o3777, Some(0)),
-    ],
-};
-
-#[test]
-fn new_core_is_zero(rt: HostRuntime) {
-    walk(&rt, rt.alloc(), &NEW_CORE_IS_ZERO);
-}
 
 /// Writes the shared word 2000 octal, which there is not; writes the word 5 and reads it.
 const WRITER: &str =
@@ -124,34 +73,75 @@ const UNLISTED: Option<Stop> = Some(Stop::Fault(IllegalInstruction));
 
 const ILLEGAL: Option<Stop> = Some(Stop::Fault(IllegalAddress));
 
-/// The PC is back at the instruction, and at the XCT where that executed it.
-static CALLS_THAT_STOP: Table = Table {
-    name: "calls_that_stop",
-    blocks: 64,
-    quantum: 1,
-    rows: &[
-        Begins(0, " CALLI 1,777\n END\n", 1),
-        Steps(2, 1),
-        Job(1, 0o140, UNLISTED, Wait::None),
-        Begins(1, " XCT [CALLI 2,12]\n END\n", 2),
-        Steps(2, 1),
-        Job(2, 0o140, UNLISTED, Wait::None),
-        Begins(2, " OUTSTR 2000\n END\n", 3),
-        Steps(2, 1),
-        Job(3, 0o140, ILLEGAL, Wait::None),
-        Begins(3, " INCHRW 2000\n END\n", 4),
-        Happens(Typed(3, b'A'), Done),
-        Steps(2, 1),
-        Job(4, 0o140, ILLEGAL, Wait::None),
-        // The character is still there.
-        Happens(Kill(4), Done),
-        Begins(3, " INCHRW 7\n END\n", 4),
-        Steps(1, 1),
-        Word(4, 7, Some(0o101)),
-    ],
-};
+/// The tables that are walked on a new machine each.
+static TABLES: [Table; 3] = [
+    Table {
+        name: "core_is_refused",
+        blocks: 1,
+        quantum: 1,
+        rows: &[
+            Begins(0, GROWER, 1),
+            Steps(2, 2),
+            Job(1, 0o142, None, Wait::None),
+            Word(1, 1, Some(0)),
+            Word(1, 0o44, Some(0o1777)),
+            Word(1, 0o1777, Some(0)),
+            Word(1, 0o2000, None),
+        ],
+    },
+    // A job fills its two blocks and goes; another takes the same blocks, and a third grows into one.
+    Table {
+        name: "new_core_is_zero",
+        blocks: 3,
+        quantum: 1,
+        rows: &[
+            Loads(0, FILLED, JobNumber(1)),
+            Loads(1, TWO_BLOCKS, Refused(NoCore)),
+            Happens(Kill(1), Done),
+            NoJob(1),
+            Loads(1, TWO_BLOCKS, JobNumber(1)),
+            Word(1, 0o140, Some(1)),
+            Word(1, 0o1777, Some(0)),
+            Word(1, 0o3777, Some(0)),
+            Happens(Kill(1), Done),
+            Loads(1, FILLED, JobNumber(1)),
+            Happens(Kill(1), Done),
+            Begins(0, GROWER, 1),
+            Steps(2, 2),
+            Word(1, 1, Some(1)),
+            Word(1, 0o1777, Some(0)),
+            Word(1, 0o3777, Some(0)),
+        ],
+    },
+    // The PC is back at the instruction, and at the XCT where that executed it.
+    Table {
+        name: "calls_that_stop",
+        blocks: 64,
+        quantum: 1,
+        rows: &[
+            Begins(0, " CALLI 1,777\n END\n", 1),
+            Steps(2, 1),
+            Job(1, 0o140, UNLISTED, Wait::None),
+            Begins(1, " XCT [CALLI 2,12]\n END\n", 2),
+            Steps(2, 1),
+            Job(2, 0o140, UNLISTED, Wait::None),
+            Begins(2, " OUTSTR 2000\n END\n", 3),
+            Steps(2, 1),
+            Job(3, 0o140, ILLEGAL, Wait::None),
+            Begins(3, " INCHRW 2000\n END\n", 4),
+            Happens(Typed(3, b'A'), Done),
+            Steps(2, 1),
+            Job(4, 0o140, ILLEGAL, Wait::None),
+            // The character is still there.
+            Happens(Kill(4), Done),
+            Begins(3, " INCHRW 7\n END\n", 4),
+            Steps(1, 1),
+            Word(4, 7, Some(0o101)),
+        ],
+    },
+];
 
 #[test]
-fn calls_that_stop(rt: HostRuntime) {
-    walk(&rt, rt.alloc(), &CALLS_THAT_STOP);
+fn tables_hold(rt: HostRuntime) {
+    walk_all(&rt, rt.alloc(), &TABLES);
 }

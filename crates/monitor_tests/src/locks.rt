@@ -3,7 +3,7 @@
 use crate::rows::Act::{Continue, Kill, Start, Typed};
 use crate::rows::Reply::Done;
 use crate::rows::Row::{Begins, Happens, Job, Locks, NoJob, Turns, Word};
-use crate::rows::{CTRL_C, Table, walk};
+use crate::rows::{CTRL_C, Table, walk, walk_all};
 use job_sched::{Stop, Wait};
 use lock_queue::EnqueueKind::{AtOnce, Blocking};
 
@@ -42,29 +42,6 @@ fn wake(rt: HostRuntime) {
     walk(&rt, rt.alloc(), &WAKE);
 }
 
-/// The rows of `release_wakes_all`.
-static RELEASE_WAKES_ALL: Table = Table {
-    name: "release_wakes_all",
-    blocks: 64,
-    quantum: 1,
-    rows: &[
-        Begins(0, OWNER, 1),
-        Begins(1, SHARER, 2),
-        Begins(2, SHARER, 3),
-        Turns(&[1, 2, 3, 1, 2, 3]),
-        Job(2, 0o143, None, Wait::Queue(0, 1)),
-        Job(3, 0o143, None, Wait::Queue(0, 1)),
-        Turns(&[1, 1]),
-        Locks(&[(2, Blocking, 0o10, true), (3, Blocking, 0o10, true)]),
-        Turns(&[2, 3, 1]),
-    ],
-};
-
-#[test]
-fn release_wakes_all(rt: HostRuntime) {
-    walk(&rt, rt.alloc(), &RELEASE_WAKES_ALL);
-}
-
 /// The rows of `kill_waiter`.
 static KILL_WAITER: Table = Table {
     name: "kill_waiter",
@@ -97,61 +74,72 @@ fn kill_waiter(rt: HostRuntime) {
     walk(&rt, rt.alloc(), &KILL_WAITER);
 }
 
-/// The rows of `stopped_waiter`.
-static STOPPED_WAITER: Table = Table {
-    name: "stopped_waiter",
-    blocks: 64,
-    quantum: 1,
-    rows: &[
-        Begins(0, OWNER, 1),
-        Begins(1, OWNER, 2),
-        Turns(&[1, 2, 1, 2]),
-        Happens(Typed(1, CTRL_C), Done),
-        Job(2, 0o143, Some(Stop::Typed), Wait::Queue(0, 1)),
-        Happens(Continue(2), Done),
-        Job(2, 0o143, None, Wait::Queue(0, 1)),
-        Happens(Typed(1, CTRL_C), Done),
-        // A start takes the request back.
-        Happens(Start(2), Done),
-        Job(2, 0o140, None, Wait::None),
-        Locks(&[(1, Blocking, 7, true)]),
-        // What a stopped job owns it keeps.
-        Happens(Typed(0, CTRL_C), Done),
-        Happens(Start(1), Done),
-        Locks(&[(1, Blocking, 7, true)]),
-    ],
-};
-
-#[test]
-fn stopped_waiter(rt: HostRuntime) {
-    walk(&rt, rt.alloc(), &STOPPED_WAITER);
-}
-
 /// ENQ. 1 of the lock, executed by XCT.
 const BY_XCT: &str = " MOVE 1,[1,,BLK]\n XCT [ENQ. 1,]\n HALT\n JRST .\n\
     BLK: 1,,5\n 0,,7\n 777777\n 500000,,12\n 0\n END\n";
 
-/// The rows of `enq_by_xct`.
-static ENQ_BY_XCT: Table = Table {
-    name: "enq_by_xct",
-    blocks: 64,
-    quantum: 1,
-    rows: &[
-        Begins(0, BY_XCT, 1),
-        Turns(&[1, 1]),
-        // Two past the XCT.
-        Job(1, 0o143, None, Wait::None),
-        Locks(&[(1, AtOnce, 7, true)]),
-        // Another's request is refused with code 1, and skips nothing.
-        Begins(1, BY_XCT, 2),
-        Turns(&[2, 1, 2]),
-        Job(2, 0o142, None, Wait::None),
-        Word(2, 1, Some(1)),
-        Locks(&[(1, AtOnce, 7, true)]),
-    ],
-};
+/// The tables that are walked on a new machine each.
+static TABLES: [Table; 3] = [
+    Table {
+        name: "release_wakes_all",
+        blocks: 64,
+        quantum: 1,
+        rows: &[
+            Begins(0, OWNER, 1),
+            Begins(1, SHARER, 2),
+            Begins(2, SHARER, 3),
+            Turns(&[1, 2, 3, 1, 2, 3]),
+            Job(2, 0o143, None, Wait::Queue(0, 1)),
+            Job(3, 0o143, None, Wait::Queue(0, 1)),
+            Turns(&[1, 1]),
+            Locks(&[(2, Blocking, 0o10, true), (3, Blocking, 0o10, true)]),
+            Turns(&[2, 3, 1]),
+        ],
+    },
+    Table {
+        name: "stopped_waiter",
+        blocks: 64,
+        quantum: 1,
+        rows: &[
+            Begins(0, OWNER, 1),
+            Begins(1, OWNER, 2),
+            Turns(&[1, 2, 1, 2]),
+            Happens(Typed(1, CTRL_C), Done),
+            Job(2, 0o143, Some(Stop::Typed), Wait::Queue(0, 1)),
+            Happens(Continue(2), Done),
+            Job(2, 0o143, None, Wait::Queue(0, 1)),
+            Happens(Typed(1, CTRL_C), Done),
+            // A start takes the request back.
+            Happens(Start(2), Done),
+            Job(2, 0o140, None, Wait::None),
+            Locks(&[(1, Blocking, 7, true)]),
+            // What a stopped job owns it keeps.
+            Happens(Typed(0, CTRL_C), Done),
+            Happens(Start(1), Done),
+            Locks(&[(1, Blocking, 7, true)]),
+        ],
+    },
+    Table {
+        name: "enq_by_xct",
+        blocks: 64,
+        quantum: 1,
+        rows: &[
+            Begins(0, BY_XCT, 1),
+            Turns(&[1, 1]),
+            // Two past the XCT.
+            Job(1, 0o143, None, Wait::None),
+            Locks(&[(1, AtOnce, 7, true)]),
+            // Another's request is refused with code 1, and skips nothing.
+            Begins(1, BY_XCT, 2),
+            Turns(&[2, 1, 2]),
+            Job(2, 0o142, None, Wait::None),
+            Word(2, 1, Some(1)),
+            Locks(&[(1, AtOnce, 7, true)]),
+        ],
+    },
+];
 
 #[test]
-fn enq_by_xct(rt: HostRuntime) {
-    walk(&rt, rt.alloc(), &ENQ_BY_XCT);
+fn tables_hold(rt: HostRuntime) {
+    walk_all(&rt, rt.alloc(), &TABLES);
 }

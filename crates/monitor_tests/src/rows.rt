@@ -453,6 +453,13 @@ pub fn walk_with<const REQS: usize>(rt: &impl Abort, alloc: Global, table: &Tabl
     walk_rows(rt, alloc, system, table);
 }
 
+/// Walks the rows of each table on a new machine that holds the most requests.
+pub fn walk_all(rt: &impl Abort, alloc: Global, tables: &[Table]) {
+    for table in tables {
+        walk_with::<MOST_REQUESTS>(rt, alloc, table);
+    }
+}
+
 /// Walks the rows of a table on the machine that holds the most requests.
 pub fn walk(rt: &impl Abort, alloc: Global, table: &Table) {
     walk_with::<MOST_REQUESTS>(rt, alloc, table);

@@ -1,4 +1,4 @@
-//! The rows of a test, and the machine that they are walked on, with either store of core.
+//! The rows of a test, and the machine that they are walked on, with each store of core.
 
 use core_store::{BlockCore, CoreStore, PlainCore};
 use job_sched::{Stop, Wait};
@@ -236,16 +236,24 @@ pub fn machine<C: CoreStore>(
     System::boot(alloc, config).expect(rt, "memory for the machine")
 }
 
-/// Walks the rows on a machine of so many blocks with one of the stores, which the message names.
-fn walk_on<C: CoreStore>(rt: &impl Abort, alloc: Global, store: &str, blocks: u32, rows: &[Row]) {
-    let mut system: System<PlainTable<MOST_REQUESTS>, C> = machine(rt, alloc, blocks);
-    for (i, row) in rows.iter().enumerate() {
-        assert!(rt; row.holds(&mut system, alloc), "{store}, row {i}");
+/// The rows of a test, its name, and the blocks of the machines that they are walked on.
+pub struct Table {
+    pub name: &'static str,
+    pub blocks: u32,
+    pub rows: &'static [Row],
+}
+
+/// Walks the rows of a table on a machine with one of the stores, which the message names.
+fn walk_on<C: CoreStore>(rt: &impl Abort, alloc: Global, store: &str, table: &Table) {
+    let mut system: System<PlainTable<MOST_REQUESTS>, C> = machine(rt, alloc, table.blocks);
+    for (i, row) in table.rows.iter().enumerate() {
+        let holds = row.holds(&mut system, alloc);
+        assert!(rt; holds, "{}, {store}, row {i}", table.name);
     }
 }
 
-/// Walks the rows on two machines of so many blocks, one with each store.
-pub fn walk(rt: &impl Abort, alloc: Global, blocks: u32, rows: &[Row]) {
-    walk_on::<PlainCore>(rt, alloc, "PlainCore", blocks, rows);
-    walk_on::<BlockCore>(rt, alloc, "BlockCore", blocks, rows);
+/// Walks the rows of a table on two machines, one with each store.
+pub fn walk(rt: &impl Abort, alloc: Global, table: &Table) {
+    walk_on::<PlainCore>(rt, alloc, "PlainCore", table);
+    walk_on::<BlockCore>(rt, alloc, "BlockCore", table);
 }

@@ -1,7 +1,7 @@
 //! A job among others is a job alone, also where its core is moved between its steps: it leaves the same
 //! registers, core and output.
 
-use crate::rows::{assembled, begins, machine, turn};
+use crate::store_rows::{assembled, begins, machine, turn};
 use core_store::{BlockCore, CoreStore, PlainCore};
 use monitor::{Answer, Event, System};
 use plain_table::PlainTable;
