@@ -13,15 +13,27 @@ PARTS = ("src", "specs", "proofs")
 
 
 @functools.lru_cache(maxsize=None)
+def lines():
+    """Gives each crate with the words behind its name in crates.txt, and with the libraries that its line names."""
+    found = {}
+    with open(f"{TOP}/crates.txt", encoding="utf-8") as text:
+        for line in text:
+            head, colon, uses = line.partition("#")[0].partition(":")
+            if colon:
+                name, *kind = head.split()
+                found[name] = kind, uses.split()
+    return found
+
+
+@functools.lru_cache(maxsize=None)
 def libraries():
     """Gives each crate with the libraries that its line of crates.txt names."""
-    found = {}
-    with open(f"{TOP}/crates.txt", encoding="utf-8") as lines:
-        for line in lines:
-            name, colon, uses = line.partition("#")[0].partition(":")
-            if colon:
-                found[name.strip()] = uses.split()
-    return found
+    return {name: uses for name, (_, uses) in lines().items()}
+
+
+def is_static(name):
+    """Whether a crate is a static library, for programs in other languages."""
+    return "staticlib" in lines()[name][0]
 
 
 def below(name, found=None):
@@ -67,7 +79,7 @@ def logic():
 
 # A comment to the end of its line; a text and a character stand before it, so that `//` in one is none.
 COMMENT = re.compile(r"""("(?:[^"\\]|\\.)*"|'(?:[^'\\\n]|\\.)'|b'(?:[^'\\\n]|\\.)')|//[^\n]*""")
-HEAD = re.compile(r"^( *)(?:pub(?:\([a-z]+\))? )?(?:const )?fn \w+")
+HEAD = re.compile(r'^( *)(?:pub(?:\([a-z]+\))? )?(?:const |extern "C" )?fn \w+')
 
 
 def code_of(file):

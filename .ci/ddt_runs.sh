@@ -3,7 +3,8 @@
 # has NAME.out, the session with an answer behind each line. The session is obeyed twice, from a file by .DO, and over
 # a pipe, where the answers alone are written. Then the lines of a session are saved and obeyed once more, lines are
 # too long, an answer comes before the next line, and 10,000 lines of chance end in nothing but answers. The argument
-# is the program; without it the one that `rt ci` built. `--write` behind it writes each NAME.out anew.
+# is the program; without it the one that `rt ci` built. `--write` behind it writes each NAME.out anew. HIRVODAS_LINES is
+# another number of lines of chance.
 set -u
 . "$(dirname "$(readlink -f "$0")")/common.sh"
 program=$(readlink -f "${1:-crates/ddt/out/ddt}")
@@ -30,8 +31,8 @@ done
 
 # what a session writes by .SAVE is the session
 for session in back conditions; do
-    { cat "$top/tests/ddt/$session.ddt"; echo .SAVE saved; } | "$program" counter.mac >first
-    echo .DO saved | "$program" counter.mac | grep -v '^\* ' | cmp -s - first || say "$session: the saved session gives other answers"
+    { cat "$top/tests/ddt/$session.ddt"; echo .SAVE saved.ddt; } | "$program" counter.mac >first
+    echo .DO saved.ddt | "$program" counter.mac | grep -v '^\* ' | cmp -s - first || say "$session: the saved session gives other answers"
 done
 
 # a file may name no other; its lines are as long as those that are typed, and may end in CR LF or, the last, in nothing
@@ -71,10 +72,10 @@ echo .QUIT >&"${COPROC[1]}"
 wait
 
 # lines of chance: tokens of the grammar, in any order, and bytes
-awk 'BEGIN {
+awk -v lines="${HIRVODAS_LINES:-10000}" 'BEGIN {
     srand(7)
     count = split("LOOP BLK TURNS 5 777777 12. . $Q + - ,, / = _ ; ^ $S $C $T $H $8R $B $3B $X 2$X $W $N $E < > ( ) @ MOVE EXIT .JOB .JOBS .LOCKS .WAITS .REGS .BACK .STEP .TICK .TYPE .TAKE .WATCH .HISTORY .FORWARD .EX .HELP .BREAK CIRCLE GRANT LOCK TO WRITE IF TIMES <> 0 1 2 63", token, " ")
-    for (line = 0; line < 10000; line++) {
+    for (line = 0; line < lines; line++) {
         text = ""
         for (parts = int(rand() * 5); parts >= 0; parts--)
             text = text (rand() < 0.9 ? token[1 + int(rand() * count)] : sprintf("%c", 33 + int(rand() * 94))) (rand() < 0.5 ? " " : "")

@@ -1,9 +1,11 @@
-"""Runs `rt ci`: tells how far it is, line by line, and measures what its parts take of a processor."""
+"""Runs `rt ci`, by .ci/prove.py, which keeps what that of some kits does not: tells how far it is, line by line, and measures
+what its parts take of a processor."""
 
 import collections
 import os
 import re
 import subprocess
+import sys
 import threading
 import time
 
@@ -16,8 +18,11 @@ MARK = "HIRVODAS_GATE"
 BETWEEN_LOOKS = 0.5
 
 # The lines that end what is said of a proof.
-PROVED = re.compile(r"^rt: (\w+)(: its tests)? (proved|NOT PROVED)")
+PROVED = re.compile(r"^rt: (\w+)(: its tests)?(?: are)? (proved|NOT PROVED)")
+
+# What is said of a crate that an earlier run proved: by the kit, in place of such a line, and by .ci/prove.py, before it.
 KEPT = re.compile(r"^rt: (\w+) is kept")
+KEPT_HERE = "rt: kept: an earlier run proved it"
 
 
 class Clock:
@@ -109,21 +114,25 @@ class Teller:
 
     def end_proof(self, line, crate, tests, found):
         self.done += 1
-        took = self.clock.seconds()[crate, "tests" if tests else "proof"]
+        took = f"{self.clock.seconds()[crate, 'tests' if tests else 'proof']:.0f} s of a processor"
+        if KEPT_HERE in (self.block or []):
+            found, took = "kept", "an earlier run proved it"
         if found == "NOT PROVED":
             for it in self.block or []:
                 print(it)
         self.block = None
-        self.tell(f"{self.done} of {self.whole} proofs: {crate}{tests or ''} {found} ({took:.0f} s of a processor)")
+        self.tell(f"{self.done} of {self.whole} proofs: {crate}{tests or ''} {found} ({took})")
 
 
-def run():
-    """Runs `rt ci` over all crates, and gives its status, its last line, and the clock."""
+def run(is_anew):
+    """Runs `rt ci` over all crates, and gives its status, its last line, and the clock. If it is to be anew, nothing is taken
+    that an earlier run kept."""
     whole = len(crates.libraries()) + sum(map(crates.has_tests, crates.libraries()))
     with Clock() as clock:
         teller = Teller(whole, clock)
         how = {"stdout": subprocess.PIPE, "stderr": subprocess.STDOUT, "text": True, "errors": "replace"}
-        with subprocess.Popen(["rt", "ci"], cwd=crates.TOP, env=clock.environment(), **how) as ran:
+        words = [sys.executable, f"{crates.TOP}/.ci/prove.py", *(["--anew"] if is_anew else [])]
+        with subprocess.Popen(words, cwd=crates.TOP, env=clock.environment(), **how) as ran:
             for line in ran.stdout:
                 teller.take(line.rstrip("\n"))
             teller.end()

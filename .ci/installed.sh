@@ -31,5 +31,13 @@ done
 for file in zsh/site-functions/_hirvodas vim/vimfiles/{ftdetect/hirvodas,syntax/macro10,syntax/lockqueue,ftplugin/macro10,ftplugin/lockqueue}.vim; do
     [ -s "$folder/share/$file" ] || say "$file is missing"
 done
-[ "$wrong" = 0 ] && echo "installed: programs, manual pages and completion" >&2
+if command -v pkg-config >/dev/null; then
+    words=$(PKG_CONFIG_PATH=$folder/lib/pkgconfig pkg-config --cflags --libs hirvodas-locks) || say "pkg-config does not find the library"
+    cc $words examples/library/guard.c -o "$folder/guard" || say "guard.c does not compile"
+    cc examples/library/turns.c $words -o "$folder/turns" || say "turns.c does not compile"
+    "$folder/turns" | cmp -s - examples/library/turns.out || say "turns.c writes something else"
+fi
+PYTHONPATH=$folder/share/hirvodas/python PYTHONDONTWRITEBYTECODE=1 python3 examples/library/drives.py |
+    cmp -s - examples/library/drives.out || say "drives.py writes something else"
+[ "$wrong" = 0 ] && echo "installed: programs, manual pages, completion and the lock library" >&2
 exit "$wrong"

@@ -18,6 +18,7 @@ import subprocess
 import sys
 from concurrent.futures import ThreadPoolExecutor
 from pathlib import Path
+from tempfile import TemporaryDirectory
 
 sys.dont_write_bytecode = True
 import crates
@@ -38,14 +39,14 @@ ERRORS = re.compile(rb"(?:\?MACRO [0-9]+:[0-9]+ [A-Z-] [^\n]+\n(?: in [^\n]+ lin
 # place that is so far away, so that there is no listing.
 FAR_AWAY = b"LOC .-^D10000000000000000000000000000000000000000+140"
 NOT_LISTED = 3, b""
-LISTED = ["--list", "/dev/null"]
 
 
 class Programs:
-    """The two programs, and what they make of a source."""
+    """The two programs, and what they make of a source. Listings go to a file of the folder."""
 
-    def __init__(self, named):
+    def __init__(self, named, folder):
         self.paths = {}
+        self.listed = ["--list", f"{folder}/words.lst"]
         for name in ("macro", "lockmon"):
             crate = crates.crate_of(name)
             self.paths[name] = os.path.abspath(named.get(name, TOP / "crates" / crate / "out" / crate))
@@ -68,7 +69,7 @@ class Programs:
             return f"status {status} and no source: {output[:200]}"
         if self.image(output) is None:
             return "`lockmon asm` does not take what is written"
-        again = [self.run("macro", words, output) for words in ([], LISTED)]
+        again = [self.run("macro", words, output) for words in ([], self.listed)]
         return None if again == [(0, output)] * 2 else "what is written is written otherwise"
 
     def other_image(self, source):
@@ -79,7 +80,7 @@ class Programs:
         status, output = self.run("macro", [], source)
         if status != 0 or self.image(output) != image:
             return f"another image, status {status}: {output[:200]}"
-        listed = self.run("macro", LISTED, source)
+        listed = self.run("macro", self.listed, source)
         return None if listed == (NOT_LISTED if FAR_AWAY in source else (0, output)) else f"listed otherwise: {listed}"
 
 
@@ -121,7 +122,12 @@ def changed(sources):
 
 
 def main(words):
-    programs = Programs(dict(word.partition("=")[::2] for word in words))
+    with TemporaryDirectory() as folder:
+        return compare(Programs(dict(word.partition("=")[::2] for word in words), folder))
+
+
+def compare(programs):
+    """Asks for all sources whether what the programs make of them holds: 0 if it does, and else 1."""
     sources = list(dialect())
     asked = [(place, source, programs.other_image) for place, source in subset()]
     asked += [(place, source, programs.fault) for place, source in [*sources, ("100,000 lines", long()), *changed(sources)]]

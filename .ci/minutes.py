@@ -12,7 +12,7 @@ PAGE = f"{crates.TOP}/docs/MAINTAINING.md"
 MARKS = "<!-- written by ./check --minutes -->", "<!-- end of what ./check --minutes writes -->"
 
 # The head of a function.
-FUNCTION = re.compile(r"^ *(?:pub(?:\([a-z]+\))? )?fn ", re.MULTILINE)
+FUNCTION = re.compile(r'^ *(?:pub(?:\([a-z]+\))? )?(?:extern "C" )?fn ', re.MULTILINE)
 
 
 class Minutes:

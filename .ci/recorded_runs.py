@@ -3,7 +3,7 @@
 compares: nothing is refused there, each terminal line gets the same text, as many steps are made, and the jobs stand as
 `ten` said. So for each stored session of `ddt` (examples/*.ddt, tests/ddt/*.ddt), at its end, by `.RECORD`: there the
 registers, the first words of core, the requests, the waits, and what was not taken yet are compared as well. The words
-ten=PATH, ddt=PATH and lockmon=PATH name other programs than those that `rt ci` built."""
+ten=PATH, ddt=PATH and lockmon=PATH name other programs than those that `rt ci` built, and --leave=COMMAND leaves out a run."""
 import re
 import subprocess
 import sys
@@ -198,19 +198,22 @@ def sessions(ddt, lockmon):
 
 
 def main(words):
-    paths = {name: TOP / "crates" / name / "out" / name for name in ("ten", "ddt", "lockmon")}
+    paths, left = {name: TOP / "crates" / name / "out" / name for name in ("ten", "ddt", "lockmon")}, []
     for word in words:
         name, _, path = word.partition("=")
-        if name not in paths or not path:
-            raise Wrong("usage: .ci/recorded_runs.py [ten=PATH] [ddt=PATH] [lockmon=PATH]")
-        paths[name] = Path(path).resolve()
+        if name == "--leave":
+            left.append(path)
+        elif name in paths and path:
+            paths[name] = Path(path).resolve()
+        else:
+            raise Wrong("usage: .ci/recorded_runs.py [ten=PATH] [ddt=PATH] [lockmon=PATH] [--leave=COMMAND]...")
     stored_runs.open_unread()
     recorded, is_right = 0, True
     with TemporaryDirectory() as folder:
         folder = Path(folder)
         stored_runs.furnish(folder / "ten", TOP / "tests/ten")
         runs = [run for file in sorted(TOP.glob("tests/ten/*.runs")) for run in stored_runs.runs_of(file)]
-        for run in runs:
+        for run in stored_runs.leave_out(runs, left):
             if not run.command.startswith("ten ") or re.search(r"[<>]|--record", run.command):
                 continue
             try:

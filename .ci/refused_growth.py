@@ -75,7 +75,7 @@ class Case:
 
     def told(self):
         """Gives what may be written to standard error where memory was refused."""
-        lines = ["there is no memory", f"{self.words[-1]}: out of memory"] if self.program == "ten" else ["memory"]
+        lines = ["there is no memory" if self.program == "ten" else "memory", *(f"{it}: out of memory" for it in self.words)]
         return [f"{self.program}: {it}\n".encode() for it in lines]
 
 
@@ -85,7 +85,8 @@ def full_queue():
     return "\n".join([*lines, "ENQ 1 1 0 N0/B", "DEQ 1 2 1", "ENQ 1 1 0 N0/B", ""]).encode()
 
 
-def cases():
+def cases(folder):
+    listing, cross = f"{folder}/words.lst", f"{folder}/words.crf"
     yield Case("lockmon", ["run"], (MEMORY / "counters.run").read_bytes())
     yield Case("lockmon", ["queue"], (MEMORY / "handed_on.queue").read_bytes())
     yield Case("lockmon", ["queue"], full_queue())
@@ -99,8 +100,8 @@ def cases():
     yield Case("image", ["save", "--to", "core"], (MEMORY / "block.mac").read_bytes())
     squares = (TOP / "examples" / "squares.mac").read_bytes()
     yield Case("macro", [], squares)
-    yield Case("macro", ["--list", "/dev/null", "--cross", "/dev/null"], squares)
-    yield Case("macro", ["--list", "/dev/null"], b" MOVEI 1,NOWHR\n END\n", 1)
+    yield Case("macro", ["--list", listing, "--cross", cross], squares)
+    yield Case("macro", ["--list", listing], b" MOVEI 1,NOWHR\n END\n", 1)
     yield Case("macro", ["fly", "away"], b"", 2)
     yield Case("ten", [str(TOP / "examples" / "squares.mac")], b"")
     yield Case("ten", [str(TOP / "examples" / "doubled.mac")], b"", 1)
@@ -159,7 +160,7 @@ def main(words):
     with TemporaryDirectory() as folder, ThreadPoolExecutor(len(os.sched_getaffinity(0)) + 1) as pool:
         Path(folder, "refuse.c").write_text(LIBRARY, encoding="utf-8")
         subprocess.run([compiler, "-shared", "-fPIC", "-O1", "-o", f"{folder}/refuse.so", f"{folder}/refuse.c", "-ldl"], check=True)
-        for case in cases():
+        for case in cases(folder):
             if not named or case.program in named:
                 count, found = Runner(case, path_of(case.program, named), folder).count(pool)
                 total, wrong = total + count, wrong + found

@@ -4,9 +4,10 @@ its status with what stands there; tests/README.md has the form of these files.
 
 The first word of a run names its program. It is made twice: by the build of LLVM, with its input in a file, and by that
 of Rattle's own compiler, with its input over a socket, in pieces of 1 to 7 bytes; or where a word NAME=PATH of this
-command says, by that program both times. A run is made in a folder with the sources, core images and scripts of examples/ and of the
-folder of its file, and takes at most two minutes. The word --write writes anew what the first gives, where it is not
-what is stored."""
+command says, by that program both times. A run is made in a folder with the sources, core images and scripts of examples/ and
+of the folder of its file, and takes at most two minutes (HIRVODAS_SECONDS has another number of seconds). The word --once has
+it made once alone, in pieces; --leave=FILE leaves out the runs of a file, and --leave=COMMAND those of a command. The word
+--write writes anew what the first gives, where it is not what is stored."""
 import difflib
 import os
 import re
@@ -33,7 +34,7 @@ ESCAPED = {byte[0]: "\\" + letter.decode() for letter, byte in NAMED.items()}
 CONTROL = re.compile("[\0-\x08\x0a-\x1f\x7f]")
 MANY = 10
 """So many lines in a row that are the same are written as one."""
-SECONDS = 120
+SECONDS = int(os.environ.get("HIRVODAS_SECONDS", "120"))
 UNREAD = 9
 """The descriptor of a pipe that nobody reads."""
 
@@ -215,15 +216,21 @@ def open_unread():
     os.close(writing)
 
 
-def make_all(folder, runs, paths):
-    """Makes each run twice: pairs of such a job and what it gave."""
+def leave_out(runs, left):
+    """Gives the runs without those of these files, and those of these commands."""
+    return [run for run in runs if str(run.file.relative_to(TOP)) not in left and run.command not in left]
+
+
+def make_all(folder, runs, paths, is_once):
+    """Makes each run twice, or once: pairs of such a job and what it gave."""
     for tests in {run.file.parent for run in runs}:
         furnish(folder / tests.name, tests)
     links = {name: links_of(folder, name, paths) for name in {run.command.split()[0] for run in runs}}
     jobs = []
     for run in runs:
         there = links[run.command.split()[0]]
-        jobs += [(run, there[0], False), (run, there[-1], True)] if there else []
+        jobs += [(run, there[0], False)] if there and not is_once else []
+        jobs += [(run, there[-1], True)] if there else []
     with ThreadPoolExecutor(os.cpu_count()) as pool:
         given = pool.map(lambda job: give(folder, *job), jobs)
         return list(zip(jobs, given))
@@ -247,15 +254,16 @@ def write_anew(changed):
         file.write_text("".join(line + "\n" for line in lines))
 
 
-def compare(folder, paths, is_writing):
+def compare(folder, paths, is_writing, is_once, left):
     """Makes and compares the runs of all files: whether each gave what is stored, or what is written now."""
     runs = [run for file in sorted(TOP.glob("tests/*/*.runs")) for run in runs_of(file)]
     for script in sorted(TOP.glob("examples/*.queue")):
         if not any(run.command == f"lockcheck --all {script.name}" for run in runs):
             raise Wrong(f"{script.relative_to(TOP)}: no run has `lockcheck --all` look at it")
+    runs = leave_out(runs, left)
     changed = []
     same = 0
-    for run, made in groupby(make_all(folder, runs, paths), key=lambda pair: pair[0][0]):
+    for run, made in groupby(make_all(folder, runs, paths, is_once), key=lambda pair: pair[0][0]):
         made = list(made)
         wanted = made[0][1] if is_writing else run.wanted
         if wanted != run.wanted:
@@ -270,16 +278,18 @@ def compare(folder, paths, is_writing):
 
 
 def main(words):
-    paths = {}
+    paths, left = {}, []
     for word in words:
         name, _, path = word.partition("=")
-        if path:
+        if name == "--leave":
+            left.append(path)
+        elif path:
             paths[name] = Path(path).resolve()
-        elif word != "--write":
-            raise Wrong("usage: .ci/stored_runs.py [NAME=PATH]... [--write]")
+        elif word not in ("--once", "--write"):
+            raise Wrong("usage: .ci/stored_runs.py [NAME=PATH]... [--once] [--leave=FILE|COMMAND]... [--write]")
     open_unread()
     with TemporaryDirectory() as folder:
-        return compare(Path(folder), paths, "--write" in words)
+        return compare(Path(folder), paths, "--write" in words, "--once" in words, left)
 
 
 if __name__ == "__main__":

@@ -15,8 +15,9 @@ from concurrent.futures import ThreadPoolExecutor
 from dataclasses import dataclass
 
 import crates
+import prove
 
-FUNCTION = re.compile(r"^( *)(?:pub(?:\([a-z]+\))? )?(?:const )?fn (\w+)")
+FUNCTION = re.compile(r'^( *)(?:pub(?:\([a-z]+\))? )?(?:const |extern "C" )?fn (\w+)')
 IMPL = re.compile(r"^( *)impl\b(?:<.*?>)? (?:([\w:]+)(?:<.*>)? for )?&?([\w:]+)")
 TRAIT = re.compile(r"^( *)(?:pub(?:\([a-z]+\))? )?trait (\w+)")
 
@@ -111,7 +112,8 @@ def command(crate, paths):
     mine, of_kit = [it for it in crates.libraries()[crate] if it in crates.libraries()], ["std"]
     of_kit += [it for it in crates.libraries()[crate] if it not in mine]
     rlib = "{0}/crates/{1}/out/rlib".format
-    words = [f"{kit()}/bin/rattle", "check", "--crate-name", crate, "src/lib.rt"]
+    root = next(it for it in ("lib", "main") if os.path.exists(f"{crates.TOP}/crates/{crate}/src/{it}.rt"))
+    words = [f"{kit()}/bin/rattle", "check", "--crate-name", crate, f"src/{root}.rt"]
     for it in of_kit:
         words += ["--extern", f"{it}={kit()}/rlibs/{it}.rlib"]
     words += ["-L", f"dependency={kit()}/rlibs"]
@@ -119,6 +121,7 @@ def command(crate, paths):
         words += ["--extern", f"{it}={rlib(crates.TOP, it)}/{it}.rlib"]
     for it in crates.below(crate):
         words += ["-L", f"dependency={rlib(crates.TOP, it)}"]
+    words += ["--crate-type", "staticlib"] * crates.is_static(crate)
     words += ["--antt-project", f"{kit()}/rattle/logic/antt-project.json", "--logic-built", f"{kit()}/logic_built", "--jobs", "1"]
     return [*words, *(word for it in paths for word in ("--only", it))]
 
@@ -225,9 +228,11 @@ def tried(crate, edits):
 
 
 def build_libraries(names):
-    """Builds the libraries below these crates, where they are not there. `rt ci` leaves them without a stamp, each
-    fit for the others that it left, and they are taken so."""
+    """Builds the libraries below these crates, where they are not there. Those that .ci/prove.py keeps are taken as they
+    stand. `rt ci` leaves them without a stamp, each fit for the others that it left, and they are taken so."""
     needed = list(dict.fromkeys(low for it in names for low in crates.below(it)))
+    if prove.are_kept(crates.TOP, needed):
+        return True
     folders = {it: f"{crates.TOP}/crates/{it}/out/rlib" for it in needed}
     if all(os.path.isdir(f"{at}/{it}.rlib") and not os.path.exists(f"{at}/stamp") for it, at in folders.items()):
         return True
