@@ -64,7 +64,8 @@ fn run<H: Host>(
     write_pending(host, Stream::Output, &mut session.output).and(Ok(is_cut))
 }
 
-/// Runs the jobs of a session, reports how each ended, and gives the exit status.
+/// Runs the jobs of a session, reports how each ended, and gives the exit status. Where memory is refused, how many steps were
+/// made may not be known, so nothing is reported of the jobs' ends.
 pub fn run_jobs<H: Host>(
     host: &mut H,
     session: &mut Session,
@@ -72,6 +73,9 @@ pub fn run_jobs<H: Host>(
     options: &Options<'_>,
 ) -> Result<u8, Failure> {
     let ran = run(host, session, machine, options);
+    if matches!(ran, Err(Failure::Memory)) {
+        return Err(Failure::Memory);
+    }
     let is_cut = matches!(ran, Ok(true));
     let status = session.report_ends(machine, options.names.as_slice(), is_cut);
     write_pending(host, Stream::Errors, &mut session.errors)?;
