@@ -98,7 +98,7 @@ impl<'a> Scanner<'a> {
         self.until.saturating_sub(self.rest.len())
     }
 
-    /// The same, and the blanks that the rest begins with.
+    /// How many bytes of the line stand before the rest, and its blanks.
     pub fn position_behind_blanks(&self) -> usize {
         self.position().saturating_add(blanks_len(self.rest))
     }
