@@ -6,5 +6,3 @@ top=$PWD
 folder=$(mktemp -d)
 trap 'rm -rf "$folder"' EXIT
 . "$top/contrib/programs.sh"
-# (of what was built in another folder, where HIRVODAS_PROGRAMS names one)
-[ -z "${HIRVODAS_PROGRAMS-}" ] || built() { echo "$HIRVODAS_PROGRAMS/$1"; }

@@ -1,7 +1,7 @@
 #!/usr/bin/env python3
 """Damages examples/digits.sav at each of its bytes, and cuts it off at each, and has `image list` read what comes of it, and
 files of random bytes in each form. A run has to end with status 0 and an image, or with status 1, a line that names what is
-wrong and the word where it is, and one that says which packing fits, or which there are.
+wrong and the word where it is, and one that says which packing fits, or which there are; of octal also how a word looks.
 The argument is the program; without it the one that `rt ci` built."""
 import os
 import random
@@ -14,7 +14,7 @@ from pathlib import Path
 TOP = Path(__file__).resolve().parent.parent
 IMAGE = re.compile(rb"(?:[0-7]{6} [0-7]{6},,[0-7]{6}(?: ; (?:call|operation) not here)?\n)*START [0-7]{6}\n")
 REFUSAL = re.compile(rb"\?(?:WORD|SAVE) [1-9][0-9]* [A-Z]+\n")
-REASON = re.compile(rb"image: word [1-9][0-9]*: .+\n    (?:it can be read by --from [a-z]+|--from says how .+)\n")
+REASON = re.compile(rb"image: word [1-9][0-9]*: .+\n    (?:it can be read by --from [a-z]+|--from says how .+)\n(?:    a word in octal is a line as .+\n)?")
 DAMAGES = (0x01, 0x08, 0x10, 0x80, 0xFF)
 """The bits that are turned over, each in turn."""
 FORMS = ("core", "dense", "ascii", "simh", "octal")

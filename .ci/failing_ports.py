@@ -125,6 +125,8 @@ A: JRST A
 LISTED = b"000140 201040,,000005\n000141 254000,,000141\nSTART 000141\n"
 SHORTER = {b"RUN 6": b"RAN 6 IDLE 0\n", b"RUN 60": b"RAN 60 IDLE 0\n", b"RUN 600": b"RAN 600 IDLE 0\n"}
 """What a line that is cut short, and is a command all the same, writes."""
+LOOKED_AT = Example("ddt", [str(TOP / "examples/counter.mac")], pairs(".= => 000000,,000140\n.QUIT"))
+"""A line of the debugger, and the one that ends it."""
 NAME = [str(TOP / "tests/ten/one.mac")], b"ADA\n", b"NAME? HELLO ADA\n"
 """A program that asks for a name: its source, the input, and what it types out."""
 
@@ -223,9 +225,9 @@ def read_no_further(program):
     yield "queue: no read behind a fault", (program, ["queue"], b"FREE 1\nFREE\nFREE 2\n", True), (b"OK\n?SCRIPT 2\n", None, REFUSED)
 
 
-def answers_in_turn(program):
+def answers_in_turn(name, program):
     """What is wrong where each line is sent once all that the lines before it write was read."""
-    for it in (COUNTING, HANDED_ON):
+    for it in (it for it in (COUNTING, HANDED_ON, LOOKED_AT) if it.program == name):
         with subprocess.Popen([program, *it.words], stdin=subprocess.PIPE, stdout=subprocess.PIPE) as run:
             clock = threading.Timer(SECONDS, run.kill)
             clock.start()
@@ -239,7 +241,7 @@ def answers_in_turn(program):
             clock.cancel()
 
 
-CASES = {"lockmon": (failed_read, failed_write, cut_script, read_no_further), "ten": (failing_terminal,)}
+CASES = {"lockmon": (failed_read, failed_write, cut_script, read_no_further), "ten": (failing_terminal,), "ddt": ()}
 
 
 def fault(case):
@@ -261,7 +263,7 @@ def main(words):
             cases = [case for each in made for case in each(program)] if not named or name in named else []
             total += len(cases)
             wrong += [it for it in pool.map(fault, cases) if it]
-            wrong += [*answers_in_turn(program)] if cases and name == "lockmon" else []
+            wrong += answers_in_turn(name, program) if not named or name in named else []
     print(*wrong, f"failing ports: {total - len(wrong)} of {total} runs hold", sep="\n", file=sys.stderr)
     return 1 if wrong or not total else 0
 

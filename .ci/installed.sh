@@ -37,6 +37,12 @@ if command -v pkg-config >/dev/null; then
     cc examples/library/turns.c $words -o "$folder/turns" || say "turns.c does not compile"
     "$folder/turns" | cmp -s - examples/library/turns.out || say "turns.c writes something else"
 fi
+if command -v aarch64-linux-gnu-gcc >/dev/null && command -v qemu-aarch64-static >/dev/null; then
+    ./install --target aarch64 "$folder/aarch64" 2>"$folder/told" || { cat "$folder/told" >&2; exit 1; }
+    aarch64-linux-gnu-gcc -static -I"$folder/aarch64/include/hirvodas" examples/library/turns.c "$folder/aarch64/lib/libhirvodas-locks.a" -o "$folder/turns.aarch64" ||
+        say "turns.c does not compile for aarch64"
+    qemu-aarch64-static "$folder/turns.aarch64" | cmp -s - examples/library/turns.out || say "turns.c writes something else on aarch64"
+fi
 PYTHONPATH=$folder/share/hirvodas/python PYTHONDONTWRITEBYTECODE=1 python3 examples/library/drives.py |
     cmp -s - examples/library/drives.out || say "drives.py writes something else"
 [ "$wrong" = 0 ] && echo "installed: programs, manual pages, completion and the lock library" >&2

@@ -6,6 +6,7 @@ and those of the libraries below, so that a change elsewhere makes the same libr
 
 import json
 import os
+import shutil
 import subprocess
 import sys
 import time
@@ -105,7 +106,7 @@ def main(words):
     if words == ["doc"]:
         return print(os.environ["STAND_IN"] + "/START-HERE.md")
     root, aside = os.getcwd(), os.getcwd() + ".aside"
-    log("ci")
+    log(" ".join(words))
     Crate.allowed = handles_of(root)
     os.mkdir(aside)
     try:
@@ -120,10 +121,13 @@ def main(words):
                 failed.append(it.name)
         in_lanes([lambda it=it, tests=tests: work(it, tests) for it in crates for tests in (False, True)])
     finally:
+        is_other = "13b" not in open(os.environ["STAND_IN"] + "/KIT-ID").read()
         for it in os.listdir(aside):
-            if os.path.isdir(f"{aside}/{it}/incremental"):
-                os.makedirs(f"{root}/crates/{it}/out", exist_ok=True)
-                os.rename(f"{aside}/{it}/incremental", f"{root}/crates/{it}/out/incremental")
+            for part in ["incremental", "rlib"] if is_other else ["incremental"]:
+                if os.path.isdir(f"{aside}/{it}/{part}"):
+                    os.makedirs(f"{root}/crates/{it}/out", exist_ok=True)
+                    shutil.rmtree(f"{root}/crates/{it}/out/{part}", ignore_errors=True)
+                    os.rename(f"{aside}/{it}/{part}", f"{root}/crates/{it}/out/{part}")
         shutil.rmtree(aside)
     print(f"{len(crates) - len({*failed})} passed, {len({*failed})} failed")
     return 1 if failed else 0
@@ -260,8 +264,20 @@ def try_other_kits(it):
     """With another kit, and where the insides of this one are others, it is `rt ci`, and says so of this one."""
     rt = (it.kit / "bin/rt").read_text()
     it.write(it.kit / "KIT-ID", "rattle-kit-13f logic 0")
+    it.write(it.rlib("low") / "low.rlib/words", "OLD")
     it.expect("another kit", "ci low high tests tests' shown")
     it.holds("with another kit there is a record", not (it.rlib("low") / "proved.json").exists())
+    it.holds("what `rt ci` of another kit left is not there", (it.rlib("low") / "low.rlib/words").read_text() == "TWO")
+    it.holds("what `rt ci` of another kit left has no stamp", all((it.rlib(name) / "stamp").exists() for name in ("low", "high", "tests")))
+    it.expect("another kit, from nothing", "ci --anew low high tests tests' shown", "--anew")
+    it.write(it.top / "crates/high/src/lib.rt", "wrong")
+    it.expect("another kit that refuses a crate", "ci low high", last="1 passed, 3 failed", status=1)
+    it.holds("what was there before a refusal is gone", (it.rlib("high") / "stamp").exists() and (it.rlib("tests") / "stamp").exists())
+    it.repository(it.top)
+    shutil.rmtree(it.rlib("high"))
+    it.repository(it.kit / "part")
+    it.expect("another kit, kept elsewhere", "ci low high tests tests' shown", str(it.top), top=it.kit / "part")
+    it.holds("another kit keeps nothing elsewhere", (it.rlib("high") / "stamp").exists())
     it.write(it.kit / "KIT-ID", "rattle-kit-13b logic 0")
     it.write(it.kit / "bin/rt", rt.replace("in_lanes(", "in_rows("))
     ran = it.start()

@@ -5,13 +5,15 @@
 .ci/library.py --build  builds alone: the archive and the shared object, for ./install
 
     lockmon=PATH        compares with this `lockmon`, and not with the one that `rt ci` built
+    target=aarch64      builds for another processor, with the compiler and the tools for it (Debian: gcc-aarch64-linux-gnu)
 
 The clients are compiled with cc, and with c++ and rustc if they are there. What is tried:
 - the examples, scripts and tables of `lockmon queue`, and random scripts, by a client in C that reads its language;
 - a load of sixty clients who hang up at random: the table is empty in the end, and `lockmon queue` answers each recorded
   call in the same way;
 - each allocation of locks_make fails in turn;
-- the clients of examples/library, and that the header says what the library's sources say."""
+- the clients of examples/library, and that the header says what the library's sources say;
+- the library for aarch64, with the client that reads the queue's language, where its compiler and an emulator are there."""
 
 import os
 import random
@@ -23,6 +25,7 @@ import sys
 import tempfile
 import threading
 import time
+from dataclasses import dataclass
 from pathlib import Path
 
 sys.dont_write_bytecode = True
@@ -33,14 +36,14 @@ import written
 TOP = Path(crates.TOP)
 CRATE = "locks_c"
 OUT = TOP / "out/library"
-ARCHIVE, SHARED = OUT / "libhirvodas-locks.a", OUT / "libhirvodas-locks.so"
 HEADERS, EXAMPLES, TESTS = TOP / "contrib/library", TOP / "examples/library", TOP / "tests/library"
 
 STRICT = ["-std=gnu11", "-O2", "-Wall", "-Wextra", "-Werror"]
 SECONDS = 300
 
-# So many random scripts are compared, and so many calls are made by sixty clients.
+# So many random scripts are compared, on another processor so many, and so many calls are made by sixty clients.
 SCRIPTS = 300
+SCRIPTS_ELSEWHERE = 60
 CALLS = 1_000_000
 
 NAMES = ["A", "B", "C", "LEDGER", "x", "ACCT.B", "#17", "#377777", "N12345678901234567890123456789", "N123456789012345678901234567890"]
@@ -50,9 +53,35 @@ class Failed(Exception):
     """What does not hold."""
 
 
-def run(words, **how):
-    """Runs a command that has to end with status 0, and gives what it wrote."""
-    ran = subprocess.run([str(it) for it in words], capture_output=True, timeout=SECONDS, check=False, **how)
+@dataclass(frozen=True)
+class Processor:
+    """Where the library runs: the processor's name, the tools for it, where what is built stands, and what runs programs."""
+
+    name: str
+    compiler: str
+    archiver: str
+    out: Path
+    runs: tuple = ()
+
+    def archive(self):
+        return self.out / "libhirvodas-locks.a"
+
+    def shared(self):
+        return self.out / "libhirvodas-locks.so"
+
+    def is_there(self):
+        """Whether its tools are there, and what runs its programs."""
+        return all(map(shutil.which, [self.compiler, self.archiver, *self.runs]))
+
+
+HERE = Processor("x86_64", "cc", "ar", OUT)
+AARCH64 = Processor("aarch64", "aarch64-linux-gnu-gcc", "aarch64-linux-gnu-ar", OUT / "aarch64", ("qemu-aarch64-static",))
+ARCHIVE, SHARED = HERE.archive(), HERE.shared()
+
+
+def run(words, seconds=SECONDS, **how):
+    """Runs a command that has to end with status 0, in so many seconds if they are given, and gives what it wrote."""
+    ran = subprocess.run([str(it) for it in words], capture_output=True, timeout=seconds, check=False, **how)
     if ran.returncode:
         raise Failed(f"{' '.join(str(it) for it in words)} ends with status {ran.returncode}: {ran.stderr.decode(errors='replace')[-2000:]}")
     return ran.stdout
@@ -76,10 +105,10 @@ def is_built(name):
     return made.is_file() and made.stat().st_mtime >= newest([name, *crates.below(name)])
 
 
-def is_current():
+def is_current(processor):
     """Whether the archive is there, and no source is newer."""
-    files = [ARCHIVE, SHARED]
-    return all(it.is_file() and it.stat().st_mtime >= newest([CRATE, *crates.below(CRATE)]) for it in files)
+    files, sources = [processor.archive(), processor.shared()], newest([CRATE, *crates.below(CRATE)])
+    return all(it.is_file() and it.stat().st_mtime >= sources for it in files)
 
 
 def prove_libraries():
@@ -108,25 +137,37 @@ def run_aloud(words, folder):
         raise Failed(f"{' '.join(str(it) for it in words)} ends with status {ran.returncode}")
 
 
-def build():
-    """Builds the archive with the kit's calls for memory in it, and the shared object."""
-    if is_current():
+def objects_for(processor, room):
+    """Has the library proved and compiled for a processor, and gives where its objects are, with the calls for memory."""
+    archive, objects = f"{room}/lib{CRATE}.a", f"{room}/objects"
+    words = trials.command(CRATE, [])
+    words[1], words[words.index("--jobs") + 1] = "build", str(min(4, len(os.sched_getaffinity(0))))
+    # (what is proved for one processor is not proved again for the other)
+    words += ["--target", f"{processor.name}-unknown-linux-gnu", "--incremental", OUT / "proofs"]
+    run([*words, "--toolchain", f"{trials.kit()}/toolchain", "-o", archive], seconds=None, cwd=TOP / "crates" / CRATE)
+    os.mkdir(objects)
+    run([processor.archiver, "x", archive], cwd=objects)
+    if processor == HERE:
+        run(["ar", "x", f"{trials.kit()}/c/liblibc_c.a"], cwd=objects)
+    else:
+        run([processor.compiler, *STRICT, "-fPIC", "-c", HEADERS / "heap.c", "-o", f"{objects}/heap.o"])
+    return objects
+
+
+def build(processor=HERE):
+    """Builds the archive with the calls for memory in it, and the shared object."""
+    if is_current(processor):
         return
     prove_libraries()
-    OUT.mkdir(parents=True, exist_ok=True)
+    processor.out.mkdir(parents=True, exist_ok=True)
+    (OUT / "proofs").mkdir(exist_ok=True)
     with tempfile.TemporaryDirectory() as room:
-        compiled = f"{room}/lib{CRATE}.a"
-        words = trials.command(CRATE, [])
-        words[1], words[words.index("--jobs") + 1] = "build", str(min(4, len(os.sched_getaffinity(0))))
-        run([*words, "--toolchain", f"{trials.kit()}/toolchain", "-o", compiled], cwd=TOP / "crates" / CRATE)
-        for it in (compiled, f"{trials.kit()}/c/liblibc_c.a"):
-            run(["ar", "x", it], cwd=room)
-        archive, shared, exports = f"{room}/{ARCHIVE.name}", f"{room}/{SHARED.name}", f"{room}/exports"
-        run(["ar", "rcs", archive, *sorted(str(it) for it in Path(room).glob("*.o"))])
+        archive, shared, exports = f"{room}/archive", f"{room}/shared", f"{room}/exports"
+        run([processor.archiver, "rcs", archive, *sorted(Path(objects_for(processor, room)).glob("*.o"))])
         Path(exports).write_text("{ global: locks_*; local: *; };\n")
-        words = ["cc", "-shared", f"-Wl,-soname,{SHARED.name}", f"-Wl,--version-script={exports}", "-o", shared]
+        words = [processor.compiler, "-shared", f"-Wl,-soname,{SHARED.name}", f"-Wl,--version-script={exports}", "-o", shared]
         run([*words, "-Wl,--whole-archive", archive, "-Wl,--no-whole-archive"])
-        for made, to in ((archive, ARCHIVE), (shared, SHARED)):
+        for made, to in ((archive, processor.archive()), (shared, processor.shared())):
             shutil.copy(made, f"{to}.new")
             os.replace(f"{to}.new", to)
 
@@ -145,14 +186,14 @@ def answers_of(program, script):
     return run(program, input=script)
 
 
-def try_cases(reader):
+def try_cases(reader, *runs):
     """Has the client obey each example, script and table of the queue's language whose lines are right."""
     found = [it for it in written.all_cases() if it.words == ("queue",) and not it.is_told]
     found = [it for it in found if b"?SCRIPT" not in it.wanted and b"QUIT" not in it.script]
     if len(found) < 100:
         raise Failed(f"only {len(found)} cases of lockmon queue are found")
     for it in found:
-        fault = written.difference(it.wanted, answers_of([reader], it.script))
+        fault = written.difference(it.wanted, answers_of([*runs, reader], it.script))
         if fault:
             raise Failed(f"{it.place}: {fault}")
     return f"{len(found)} examples, scripts and cases of lockmon queue"
@@ -184,19 +225,28 @@ def line_at_random(draw, names, jobs):
     return draw.choice(["SHOW", "WAITS"])
 
 
-def try_random_scripts(reader, lockmon):
+def try_random_scripts(reader, lockmon, *runs, scripts=SCRIPTS):
     draw, lines = random.Random(1), 0
-    for number in range(SCRIPTS):
+    for number in range(scripts):
         names, jobs = draw.sample(NAMES, draw.randrange(1, 7)), draw.choice([2, 3, 5, 12, 63])
         script = [line_at_random(draw, names, jobs) for _ in range(draw.randrange(20, 400))]
         text = "".join(f"{it}\n" for it in [*script, "SHOW", "WAITS"] if len(it) <= 256).encode()
         wanted = answers_of([lockmon, "queue"], text)
-        fault = written.difference(wanted, answers_of([reader], text))
+        fault = written.difference(wanted, answers_of([*runs, reader], text))
         if fault:
             (OUT / "differs.queue").write_bytes(text)
             raise Failed(f"random script {number}, which is kept in out/library/differs.queue: {fault}")
         lines += wanted.count(b"\n")
-    return f"{SCRIPTS} random scripts with {lines} lines of answers"
+    return f"{scripts} random scripts with {lines} lines of answers"
+
+
+def try_elsewhere(room, lockmon):
+    """Tries the library for another processor, run by an emulator."""
+    build(AARCH64)
+    reader = f"{room}/elsewhere"
+    run([AARCH64.compiler, *STRICT, "-static", f"-I{HEADERS}", TESTS / "queue_lines.c", AARCH64.archive(), "-o", reader])
+    said = [try_cases(reader, *AARCH64.runs), try_random_scripts(reader, lockmon, *AARCH64.runs, scripts=SCRIPTS_ELSEWHERE)]
+    return f"for {AARCH64.name}: {', '.join(said)}"
 
 
 def try_load(room, lockmon):
@@ -295,10 +345,10 @@ def try_clients(room):
     if shutil.which("c++"):
         run([compiled(room, "in_cpp", TESTS / "in_cpp.cc", compiler="c++", flags=["-Wall", "-Wextra", "-Werror"])])
         yield "a client in C++"
-    program = compiled(room, "turns", EXAMPLES / "turns.c")
-    if run([program]) != (EXAMPLES / "turns.out").read_bytes():
-        raise Failed("examples/library/turns.c writes something else")
-    yield "the client in C: turns"
+    for name in ("turns", "spool"):
+        if run([compiled(room, name, EXAMPLES / f"{name}.c")]) != (EXAMPLES / f"{name}.out").read_bytes():
+            raise Failed(f"examples/library/{name}.c writes something else")
+    yield "the clients in C: turns and spool"
     yield try_python()
     if shutil.which("rustc"):
         yield try_rust(room)
@@ -313,6 +363,10 @@ def try_all(lockmon):
         yield "no memory: " + run([compiled(room, "no_memory", TESTS / "no_memory.c", *wraps)]).decode().strip()
         yield try_load(room, lockmon)
         yield from try_clients(room)
+        if AARCH64.is_there():
+            yield try_elsewhere(room, lockmon)
+        else:
+            yield f"for {AARCH64.name}: not tried, since its compiler or {AARCH64.runs[0]} is not there (Debian: gcc-aarch64-linux-gnu, qemu-user-static)"
 
 
 def main(words):
@@ -321,7 +375,7 @@ def main(words):
     os.chdir(TOP)
     began = time.time()
     try:
-        build()
+        build(AARCH64 if f"target={AARCH64.name}" in words else HERE)
         print(f"library: built ({time.time() - began:.0f} seconds)", file=sys.stderr)
         if "--build" in words:
             return 0

@@ -8,8 +8,9 @@
 
 Some kits keep nothing of what their `rt ci` proved. This is that command of such a kit, loaded as a module, so that the same
 texts are refused, and the last line counts the same. It differs in this: a library that is kept is not proved again as long
-as its record holds; and where crates.txt leads is worked out once, not for each way that leads down to a crate. With any other
-kit, and where the kit's insides are not those that are known here, it is `rt ci` itself.
+as its record holds; and where crates.txt leads is worked out once, not for each way that leads down to a crate. Any other kit
+keeps beside itself what its `rt ci` proved: then it is that command, and the libraries that it leaves are put where they are
+kept, without a record. So it is where the kit's insides are not those that are known here.
 
 The record of a library has the sum of all that its proof rests on, and the sum of the library itself. The first is of the
 kit, HANDLES, the names that its line of crates.txt has, its sources, definitions and proofs, and the sums of the libraries below
@@ -25,8 +26,10 @@ import json
 import os
 import re
 import shutil
+import signal
 import subprocess
 import sys
+import tempfile
 import types
 
 sys.dont_write_bytecode = True
@@ -239,6 +242,49 @@ def take(rt, here, other):
     print(f"kept here {len(same)}; taken {len(taken)}: {' '.join(taken)}; lacking {len(lacking)}: {' '.join(lacking)}")
 
 
+def run_ci(here, kept, is_anew):
+    """Runs the kit's own `rt ci`, and gives its status. Where it passed, the libraries at `kept` are those that it left."""
+    git = f"{here}/.git"
+    with tempfile.TemporaryDirectory(dir=git if os.path.isdir(git) else None) as aside:
+        # (`rt ci` brings back what stood here before it, which may be of other sources)
+        move_libraries(f"{here}/crates/{{}}/out/rlib", f"{aside}/{{}}")
+        ran = subprocess.Popen(["rt", "ci", *(["--anew"] if is_anew else [])])
+        for it in (signal.SIGTERM, signal.SIGHUP, signal.SIGINT):
+            signal.signal(it, lambda number, _: ran.send_signal(number))
+        status = ran.wait()
+        if status:
+            move_libraries(f"{aside}/{{}}", f"{here}/crates/{{}}/out/rlib")
+            return status
+    try:
+        hand_over(load_rt(), here, kept)
+    except (AttributeError, TypeError, OSError, SyntaxError, subprocess.CalledProcessError) as error:
+        print(f"prove.py: the libraries are not put where `rt check` finds them: {error}", file=sys.stderr, flush=True)
+    return status
+
+
+def move_libraries(place, to):
+    """Moves the libraries of all crates, whose folders these are with the name of the crate in place of {}."""
+    top = place.partition("{}")[0]
+    for it in os.listdir(top) if os.path.isdir(top) else []:
+        if os.path.isdir(place.format(it)):
+            shutil.rmtree(to.format(it), ignore_errors=True)
+            os.makedirs(os.path.dirname(to.format(it)), exist_ok=True)
+            shutil.move(place.format(it), to.format(it))
+
+
+def hand_over(rt, here, kept):
+    """Puts the libraries that `rt ci` left where they are kept, each with the stamp of `rt`."""
+    keeper, place = Keeper(rt, kept), "{0}/{1}.rlib".format
+    libraries = [it for it in libraries_of(keeper, here) if os.path.isdir(place(keeper.folder_of(it.name, here), it.name))]
+    keeper.lock([it.name for it in libraries])
+    for it in libraries:
+        if here != kept:
+            keeper.empty(it)
+            own, other = place(keeper.folder_of(it.name), it.name), place(keeper.folder_of(it.name, here), it.name)
+            shutil.copytree(other, own, copy_function=getattr(rt, "link_or_copy", shutil.copy2))
+        keeper.write(it, STAMP, it.stamp())
+
+
 def known_rt():
     """Gives the command `rt` of a kit whose `rt ci` keeps nothing, as a module, if its insides are those that are known here."""
     version = subprocess.run(["rt", "version"], capture_output=True, text=True, check=True).stdout
@@ -260,9 +306,10 @@ def main(words):
     rt, here = known_rt(), os.getcwd()
     if flag == "--take":
         return take(rt, here, os.path.realpath(places[0])) if rt else 0
+    kept = os.path.realpath(places[0]) if places else here
     if not rt:
-        os.execvp("rt", ["rt", "ci"])
-    keep_proofs(rt, os.path.realpath(places[0]) if places else here, not places, flag == "--anew")
+        return run_ci(here, kept, flag == "--anew")
+    keep_proofs(rt, kept, not places, flag == "--anew")
     return rt.main(["ci"])
 
 

@@ -1,12 +1,19 @@
+#!/usr/bin/env python3
 """Rows of the processor: a line `instruction | before | after` of a table NAME.rows has an instruction as a source has
 it, which stands at 140 octal in a job of one block of core, what is not 0 before it, and what it changes. `lockmon asm`
-assembles the instruction, and `ka_run` carries it out."""
+assembles the instruction, and `ka_run` carries it out: those that `rt ci` built, by both compilers, or lockmon=PATH and
+ka_run=PATH. What differs is told, and the last line counts what holds."""
 
 import os
 import re
 import subprocess
+import sys
 from concurrent.futures import ThreadPoolExecutor
 from dataclasses import dataclass, field
+
+TOP = os.path.dirname(os.path.dirname(os.path.realpath(__file__)))
+TABLE = "tests/processor/instructions.rows"
+PROGRAMS, BUILDS = ("lockmon", "ka_run"), ("", ".by-rattle")
 
 # Where the instruction stands.
 FIRST = 0o140
@@ -139,13 +146,30 @@ def fault_of(row, lockmon, ka_run):
         return f"ka_run gives no state: {fault}"
 
 
-def check(lockmon, ka_run, table):
+def faults(lockmon, ka_run, table):
     """Gives what is told of the rows of a table, of which there has to be one, and how many hold."""
     with open(table, encoding="utf-8") as lines:
         rows = [(number, row) for number, line in enumerate(lines, 1) if (row := line.partition(";")[0].strip())]
     with ThreadPoolExecutor(len(os.sched_getaffinity(0)) + 1) as pool:
-        faults = list(pool.map(lambda it: fault_of(it[1], lockmon, ka_run), rows))
-    told = [f"{table}, line {number}: {fault}" for (number, _), fault in zip(rows, faults) if fault]
+        found = list(pool.map(lambda it: fault_of(it[1], lockmon, ka_run), rows))
+    told = [f"{table}, line {number}: {fault}" for (number, _), fault in zip(rows, found) if fault]
     if not rows:
         told.append(f"{table}: there are no rows")
-    return told, f"{faults.count('')} rows hold"
+    return told, f"{found.count('')} rows hold"
+
+
+def main(words):
+    os.chdir(TOP)
+    named = dict(word.partition("=")[::2] for word in words)
+    builds = [named] if named else [{it: f"crates/{it}/out/{it}{build}" for it in PROGRAMS} for build in BUILDS]
+    is_right = set(builds[0]) == {*PROGRAMS}
+    for programs in builds if is_right else ():
+        lockmon, ka_run = (os.path.abspath(programs[it]) for it in PROGRAMS)
+        told, held = faults(lockmon, ka_run, TABLE)
+        print(*told, f"{os.path.relpath(ka_run)}: {held}", sep="\n", file=sys.stderr)
+        is_right = is_right and not told
+    return 0 if is_right else 1
+
+
+if __name__ == "__main__":
+    sys.exit(main(sys.argv[1:]))

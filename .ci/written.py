@@ -1,5 +1,4 @@
-#!/usr/bin/env python3
-"""Compares what the programs write with what is written down for it.
+"""What is written down beside a script or a source, and what a run of `lockmon` has to write on it; .ci/stored_runs.py makes these.
 
 - A document has examples: a block marked `queue`, `run` or `asm`, behind it a block marked `output`, and where something
   is written to standard error a block marked `errors`.
@@ -7,32 +6,18 @@
   with `; lockmon ` has the words by which it is served. In a folder with a file of runs those without NAME.out are left
   to .ci/stored_runs.py, and so is a source that begins with `; macro `.
 - A table NAME.queue.cases and so on has a script, ` | ` and what is written on it in each line.
-- A table NAME.rows has rows of the processor, which `lockmon` assembles and `ka_run` carries out.
 
-The programs are those that `rt ci` built, by both compilers; or `lockmon=PATH` alone, and with `ka_run=PATH` beside it
-the rows as well. The status of a run is 1 where its transcript ends with ?SCRIPT or ?ASM, and else 0.
-What differs is told, and the last line counts what holds."""
-import os
+The status of a run is 1 where its transcript ends with ?SCRIPT or ?ASM, and else 0."""
 import re
-import subprocess
-import sys
-from concurrent.futures import ThreadPoolExecutor
 from dataclasses import dataclass
 from itertools import zip_longest
 from pathlib import Path
 
-sys.dont_write_bytecode = True
-import rows
-
-TOP = Path(__file__).resolve().parent.parent
-PROGRAMS = ("lockmon", "ka_run")
-DOCUMENTS = ("docs/MANUAL.md", "docs/LOCKS.md", "docs/MACHINE.md")
+DOCUMENTS = ("docs/MANUAL.md", "docs/MACRO.md", "docs/LOCKS.md", "docs/MACHINE.md")
 COMMANDS = {".queue": "queue", ".run": "run", ".mac": "asm"}
-BUILDS = ("", ".by-rattle")
 REFUSALS = (b"?SCRIPT ", b"?ASM ")
 ESCAPE = re.compile(rb"\\(x[0-9A-Fa-f]{2}|.?)")
 ESCAPED = {b"n": b"\n", b"r": b"\r", b"t": b"\t", b"\\": b"\\"}
-SECONDS = 60
 
 
 class Wrong(Exception):
@@ -48,6 +33,10 @@ class Case:
     script: bytes
     wanted: bytes
     is_told: bool = False
+
+    @property
+    def status(self):
+        return 1 if lines_of(self.wanted)[-1].startswith(REFUSALS) else 0
 
 
 def read(name):
@@ -187,61 +176,3 @@ def difference(wanted, given):
         if line != found:
             return f"line {number} should be {shown(line)} and is {shown(found)}"
     return None
-
-
-def faults(program, case):
-    """What differs where a program serves a case."""
-    try:
-        ran = subprocess.run([program, *case.words], input=case.script, capture_output=True, timeout=SECONDS)
-    except subprocess.TimeoutExpired:
-        return [f"{case.place}: it has not ended after {SECONDS} seconds"]
-    found = [difference(case.wanted, ran.stderr if case.is_told else ran.stdout)]
-    status = 1 if lines_of(case.wanted)[-1].startswith(REFUSALS) else 0
-    if not case.is_told and ran.returncode != status:
-        found.append(f"the status should be {status} and is {ran.returncode}")
-    return [f"{case.place}: {fault}" for fault in found if fault]
-
-
-def check_cases(program, cases):
-    """What is wrong with cases by a program, and how many hold."""
-    with ThreadPoolExecutor(len(os.sched_getaffinity(0)) + 1) as pool:
-        found = list(pool.map(lambda case: faults(program, case), cases))
-    told = [fault for each in found for fault in each]
-    return told, f"{sum(not each for each in found)} of {len(cases)} examples, scripts and cases hold"
-
-
-def programs_of(words):
-    """The programs of each build by name: as each compiler built them, or those that the words name."""
-    named = [word.partition("=") for word in words]
-    if not all(name in PROGRAMS and path for name, _, path in named) or named and "lockmon" not in (it[0] for it in named):
-        print("usage: .ci/written.py [lockmon=PATH [ka_run=PATH]]", file=sys.stderr)
-        sys.exit(2)
-    if named:
-        return [{name: os.path.abspath(path) for name, _, path in named}]
-    return [{name: f"{TOP}/crates/{name}/out/{name}{build}" for name in PROGRAMS} for build in BUILDS]
-
-
-def main():
-    builds = programs_of(sys.argv[1:])
-    os.chdir(TOP)
-    cases = list(all_cases())
-    tables = [path for path in files_of("tests") if path.suffix == ".rows"]
-    if not tables:
-        raise Wrong("tests: there are no rows")
-    all_hold = True
-    for build in builds:
-        lockmon, ka_run = build["lockmon"], build.get("ka_run")
-        found = [(lockmon, *check_cases(lockmon, cases))]
-        found += [(ka_run, *rows.check(lockmon, ka_run, table)) for table in tables if ka_run]
-        for program, told, held in found:
-            print(*told, f"{os.path.relpath(program)}: {held}", sep="\n", file=sys.stderr)
-            all_hold = all_hold and not told
-    return 0 if all_hold else 1
-
-
-if __name__ == "__main__":
-    try:
-        sys.exit(main())
-    except (Wrong, OSError) as fault:
-        print(f"written: {fault}", file=sys.stderr)
-        sys.exit(1)

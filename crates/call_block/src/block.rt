@@ -7,7 +7,7 @@ ghost use Rattle.lock_queue.specs.WellFormed.{shares_rightly};
 ghost use Rattle.call_block.specs.Blocks.{word, lock_at, wants_at, block_at, may_have_limit, read_as, wants_read_as};
 
 use crate::want::{Lock, want_of};
-use ka_cpu::{JobMemory, Regs, are_legal, fetch};
+use ka_cpu::{ReadMemory, Regs, are_legal, fetch};
 use lock_queue::{BlockUse, Refusal, RequestId, Want, Wants};
 use word36::{Address, LOCKS_A_CALL, Word};
 
@@ -45,7 +45,7 @@ fn may_have_limit(block_use: BlockUse) -> bool
 }
 
 /// The word at a legal address.
-fn word<M: JobMemory>(regs: &Regs, memory: &M, address: u32) -> Word
+fn word<M: ReadMemory>(regs: &Regs, memory: &M, address: u32) -> Word
     requires { IsTrue (is_legal (M.words memory.now) address) }
     ensures { result ≡ word regs.now.ac (M.words memory.now) address }
 {
@@ -57,7 +57,7 @@ fn word<M: JobMemory>(regs: &Regs, memory: &M, address: u32) -> Word
 }
 
 /// The lock whose three words, at legal addresses, begin at an address.
-fn lock_at<M: JobMemory>(regs: &Regs, memory: &M, address: u32) -> Lock
+fn lock_at<M: ReadMemory>(regs: &Regs, memory: &M, address: u32) -> Lock
     requires fits { address < 2 ^ 20 }
     requires legal { IsTrue (is_legal (M.words memory.now) (address + 2)) }
     ensures { result ≡ lock_at regs.now.ac (M.words memory.now) address }
@@ -86,7 +86,7 @@ fn put(wants: &mut Wants, position: usize, want: Want)
 /// Fills in the wants of `count` locks, whose words begin at `first` and are all legal, or returns the first
 /// refusal; then the contents of `wants` mean nothing.
 #[inline(always)]
-fn read_wants<M: JobMemory>(
+fn read_wants<M: ReadMemory>(
     regs: &Regs,
     memory: &M,
     first: u32,
@@ -132,7 +132,7 @@ fn read_wants<M: JobMemory>(
 /// TOPS-10 Monitor Calls Manual; the layout and the refusals are this project's profile.)
 #[inline(always)]
 #[tactic(auto, unfolding(crate::specs::Blocks::block_at))]
-pub fn fill_block<M: JobMemory>(
+pub fn fill_block<M: ReadMemory>(
     regs: &Regs,
     memory: &M,
     address: Address,
@@ -168,7 +168,7 @@ pub fn fill_block<M: JobMemory>(
 }
 
 /// The block of a job's call at an address, or the first refusal, as of `fill_block`.
-pub fn read_block<M: JobMemory>(
+pub fn read_block<M: ReadMemory>(
     regs: &Regs,
     memory: &M,
     address: Address,

@@ -6,7 +6,7 @@ ghost use Rattle.ka_cpu.specs.Memory.{word_at};
 ghost use Rattle.call_block.specs.Names.{characters, AreLegalCharacters, text_at, name_at};
 
 use crate::bits::bits;
-use ka_cpu::{JobMemory, Regs, fetch};
+use ka_cpu::{ReadMemory, Regs, fetch};
 use lock_queue::{Name, NameCharacters, NameText, Refusal, UserCode};
 use word36::{NAME_LENGTH, Word};
 
@@ -42,7 +42,7 @@ fn increment(pointer: Word) -> Word
 }
 
 /// The word of the next character, given the word of this one; `None` where its address is not legal.
-fn next_word<M: JobMemory>(
+fn next_word<M: ReadMemory>(
     regs: &Regs,
     memory: &M,
     pointer: Word,
@@ -72,7 +72,7 @@ fn character_of(pointer: Word, word: Word) -> u8
 /// The characters after a pointer, up to the first zero, and at most one more than a name may have. `None`
 /// where the address of one of them is not legal.
 #[inline(always)]
-fn read_characters<M: JobMemory>(regs: &Regs, memory: &M, pointer: Word) -> Option<NameCharacters>
+fn read_characters<M: ReadMemory>(regs: &Regs, memory: &M, pointer: Word) -> Option<NameCharacters>
     requires { size_of pointer ≡ 7 }
     ensures { AreLegalCharacters result (characters regs.now.ac (M.words memory.now) pointer NAME_ROOM) }
 {
@@ -93,7 +93,7 @@ fn read_characters<M: JobMemory>(regs: &Regs, memory: &M, pointer: Word) -> Opti
 
 /// The text after a pointer, or its refusal.
 #[inline(always)]
-fn read_text<M: JobMemory>(regs: &Regs, memory: &M, pointer: Word) -> Result<NameText, Refusal>
+fn read_text<M: ReadMemory>(regs: &Regs, memory: &M, pointer: Word) -> Result<NameText, Refusal>
     requires { size_of pointer ≡ 7 }
     ensures { result ≡ text_at regs.now.ac (M.words memory.now) pointer }
 {
@@ -105,7 +105,7 @@ fn read_text<M: JobMemory>(regs: &Regs, memory: &M, pointer: Word) -> Result<Nam
 
 /// The name that a word of a block gives: a user code, or the text at a pointer; or its refusal.
 #[inline(always)]
-pub fn read_name<M: JobMemory>(regs: &Regs, memory: &M, word: Word) -> Result<Name, Refusal>
+pub fn read_name<M: ReadMemory>(regs: &Regs, memory: &M, word: Word) -> Result<Name, Refusal>
     ensures { result ≡ name_at regs.now.ac (M.words memory.now) word }
 {
     if bits(word, 0, 2) == 5 {

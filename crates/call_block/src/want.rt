@@ -5,7 +5,7 @@ ghost use Rattle.call_block.specs.Locks.{scope_of, terms_of, want_of};
 
 use crate::bits::bits;
 use crate::name::read_name;
-use ka_cpu::{JobMemory, Regs};
+use ka_cpu::{ReadMemory, Regs};
 use lock_queue::{BlockUse, Group, Key, Level, Refusal, Scope, Terms, Want};
 use word36::Word;
 
@@ -49,7 +49,7 @@ fn terms_of(lock: Lock) -> Terms
 
 /// A job's want of a lock, or the refusal of the lock.
 #[inline(always)]
-pub fn want_of<M: JobMemory>(
+pub fn want_of<M: ReadMemory>(
     regs: &Regs,
     memory: &M,
     job: u8,

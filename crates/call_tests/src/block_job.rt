@@ -1,7 +1,7 @@
 //! A job's memory, and what a call finds of a block there.
 
 use call_block::{Block, read_block};
-use ka_cpu::{Flags, JobMemory, Regs};
+use ka_cpu::{Flags, ReadMemory, Regs};
 use lock_queue::{BlockUse, Name, Pool, Refusal, Scope, Want};
 use std::alloc::{AllocError, Global};
 use word36::{Address, Word};
@@ -18,10 +18,8 @@ struct Core {
     words: Vec<Word>,
 }
 
-impl JobMemory for Core {
+impl ReadMemory for Core {
     ghost words = { λ core. core.words.items };
-
-    ghost place = { λ _. 0 };
 
     fn size(&self) -> usize {
         self.words.len()
@@ -29,16 +27,6 @@ impl JobMemory for Core {
 
     fn read(&self, a: u32) -> Option<Word> {
         self.words.get(a as usize).copied()
-    }
-
-    fn write(&mut self, a: u32, word: Word) -> bool {
-        let at = a as usize;
-        if at < self.words.len() {
-            self.words[at] = word;
-            true
-        } else {
-            false
-        }
     }
 }
 
@@ -146,8 +134,8 @@ impl Job {
     fn store(&mut self, address: u32, word: Word) {
         if address < 16 {
             self.regs.ac[address as usize] = word;
-        } else {
-            let _ = self.core.write(address, word);
+        } else if let Some(place) = self.core.words.get_mut(address as usize) {
+            *place = word;
         }
     }
 

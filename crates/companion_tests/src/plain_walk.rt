@@ -92,7 +92,7 @@ fn answer_number(reply: LockReply) -> usize {
 }
 
 /// Whether no job can make a call, though one waits. Each has so many calls.
-fn is_stuck(desk: &Desk, programs: &Programs, made: &[u16]) -> bool {
+fn is_stuck(desk: &Desk, programs: &Programs, made: &[u32]) -> bool {
     let mut is_one_waiting = false;
     for (k, job) in programs.jobs().iter().enumerate() {
         if desk.is_waiting(*job) {
@@ -116,7 +116,7 @@ fn try_order(
     saw: &mut Saw,
 ) -> Result<(), AllocError> {
     desk.clear();
-    let mut made = Vec::from_elem(alloc, 0u16, programs.jobs().len())?;
+    let mut made = Vec::from_elem(alloc, 0u32, programs.jobs().len())?;
     for (length, by) in order.iter().enumerate() {
         let Some(job) = programs.jobs().get(*by) else {
             return Ok(());

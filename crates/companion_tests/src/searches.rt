@@ -1,5 +1,5 @@
 ghost use Rattle.std.specs.Prelude.{◌≡◌, ℕ, ◌+◌, ◌%◌, ◌<◌, ◌≤◌, Some, None, cond, nat_eq, nat_le, nat_lt};
-ghost use Rattle.companion_tests.specs.Counting.{counted, tell_apart, agree};
+ghost use Rattle.companion_tests.specs.Counting.{counted, equal_is_same, same_is_equal};
 
 use state_search::{Labels, Moves, Outcome, Property, Unwatched, all_labels, find_witness, search};
 use std::alloc::{AllocError, Global};
@@ -16,8 +16,6 @@ impl Moves for Counter {
 
     type View = u32;
 
-    type Key = u32;
-
     type Room = ();
 
     ghost first = { λ _. 0 };
@@ -30,9 +28,9 @@ impl Moves for Counter {
 
     ghost IsSound = { λ s x. x ≤ s.limit };
 
-    ghost HasKey = { λ _ x k. k ≡ x };
+    ghost Extends = { λ s t. t ≡ s };
 
-    fn first_state(&self, _alloc: Global) -> Result<u32, AllocError> {
+    fn first_state(&mut self, _alloc: Global) -> Result<u32, AllocError> {
         Ok(0)
     }
 
@@ -45,7 +43,7 @@ impl Moves for Counter {
     }
 
     fn make_move(
-        &self,
+        &mut self,
         _alloc: Global,
         _room: &mut (),
         state: &u32,
@@ -59,13 +57,25 @@ impl Moves for Counter {
         }
     }
 
-    fn key_of(&self, _alloc: Global, state: &u32) -> Result<u32, AllocError> {
-        Ok(*state)
-    }
+    ghost use Rattle.std.proofs.Common.{ap, refl, subst, sym, ◌∙◌};
 
-    ghost keys_agree = { λ _ x k j e f. agree x k j e f };
+    ghost equal_are_same = { λ _ x y _ _ e. equal_is_same x y e };
 
-    ghost keys_tell_apart = { λ _ x y k j e f c. tell_apart x y k j e f c };
+    ghost same_are_equal = { λ _ x y _ _ e. same_is_equal x y e };
+
+    ghost extends_itself = { λ _. refl };
+
+    ghost extends_on = { λ _ _ _ e f. f ∙ e };
+
+    ghost sound_stays = { λ s t x e h. subst (λ v. x ≤ v.limit) (sym e) h };
+
+    ghost shown_stays = { λ _ _ _ _ _. refl };
+
+    ghost first_stays = { λ _ _ _. refl };
+
+    ghost count_stays = { λ _ _ _. refl };
+
+    ghost next_stays = { λ s t e. ap (λ v x k. counted v.limit x k) e };
 }
 
 #[derive(Drop)]
@@ -87,10 +97,10 @@ impl Property<Counter> for Is {
 
 #[test]
 fn counts(rt: HostRuntime) -> Result<(), Fail> {
-    let system = Counter { limit: 20 };
-    match search(rt.alloc(), &system, 100, &mut Unwatched)? {
+    let mut system = Counter { limit: 20 };
+    match search(rt.alloc(), &mut system, 100, &mut Unwatched)? {
         Outcome::All(kept) => {
-            assert_eq!(rt; kept.met.len(), 21);
+            assert_eq!(rt; kept.len(), 21);
             let found = find_witness(rt.alloc(), &system, &kept, &Is(11))?.ok_or("none")?;
             assert_eq!(rt; found.moves.as_slice(), [0, 0, 1, 1, 1].as_slice());
             assert!(rt; find_witness(rt.alloc(), &system, &kept, &Is(21))?.is_none());
@@ -102,7 +112,7 @@ fn counts(rt: HostRuntime) -> Result<(), Fail> {
 
 #[test]
 fn gives_up(rt: HostRuntime) -> Result<(), Fail> {
-    match search(rt.alloc(), &Counter { limit: 20 }, 20, &mut Unwatched)? {
+    match search(rt.alloc(), &mut Counter { limit: 20 }, 20, &mut Unwatched)? {
         Outcome::All(_) => assert!(rt; false),
         Outcome::GaveUp(n) => assert_eq!(rt; n, 20),
     }
@@ -134,8 +144,8 @@ impl Labels<Counter> for Odd {
 
 #[test]
 fn gathers_labels(rt: HostRuntime) -> Result<(), Fail> {
-    let system = Counter { limit: 6 };
-    match search(rt.alloc(), &system, 7, &mut Unwatched)? {
+    let mut system = Counter { limit: 6 };
+    match search(rt.alloc(), &mut system, 7, &mut Unwatched)? {
         Outcome::All(kept) => {
             let labels = all_labels(rt.alloc(), &system, &kept, &Odd)?;
             assert_eq!(rt; labels.len(), 3);

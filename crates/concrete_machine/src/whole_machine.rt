@@ -4,6 +4,7 @@ ghost use Rattle.word36.specs.declared.sizes.TheConstants.{MOST_REQUESTS};
 ghost use Rattle.machine.specs.Between.{Between, is_among, next_in};
 ghost use Rattle.machine.specs.Deposits.{deposited, started_at};
 ghost use Rattle.machine.specs.Machine.{happens, after, answers, at_boot};
+ghost use Rattle.machine.specs.Next.{asked_next, block_next, effective_in, executed_in};
 ghost use Rattle.machine.specs.Rounds.{rounds, runs_in};
 ghost use Rattle.machine.specs.Views.{job_view, word_in};
 ghost use Rattle.machine.specs.declared.event.Event.TheVariants.{Tick};
@@ -18,7 +19,7 @@ use monitor::{Answer, Config, Event, JobView, Rounds, System};
 use run_events::{Fact, RoundsMade, rounds_facts, tick_facts};
 use std::alloc::{AllocError, Global};
 use std::marker::Model;
-use uuo_calls::BlockRoom;
+use uuo_calls::{Asked, BlockRoom};
 use word36::{Address, Word};
 
 /// A `System` with the lock table and the core store of the programs. Its methods are those of `System`.
@@ -113,6 +114,31 @@ impl Machine {
         ensures { result ≡ word_in self.now.world n a }
     {
         self.system.peek(n, a)
+    }
+
+    /// The word that is executed where a job executes this one: itself, unless it is XCT. `None` where the job is not there,
+    /// or the processor refuses the XCT.
+    pub fn executed_word(&self, n: u8, word: Word) -> Option<Word>
+        ensures { result ≡ executed_in self.now.world n word }
+    {
+        self.system.executed_word(n, word)
+    }
+
+    /// The effective address of a word of a job, over indirect words. `None` where the job is not there, or the processor
+    /// refuses the address.
+    pub fn effective_address(&self, n: u8, word: Word) -> Option<Address>
+        ensures { result ≡ effective_in self.now.world n word }
+    {
+        self.system.effective_address(n, word)
+    }
+
+    /// What a job asks of the lock queue by its next instruction, if that is a lock call. The block that it reads, or the
+    /// block's first refusal, is left in `room`.
+    pub fn asked_next(&self, n: u8, room: &mut BlockRoom) -> Option<Asked>
+        ensures asked { result ≡ asked_next self.now.world n }
+        ensures block { room.new ≡ block_next self.now.world n }
+    {
+        self.system.asked_next(n, room)
     }
 
     /// Stores a word at an address of a job, as a debugger does. False where the job is not there or the

@@ -2,11 +2,12 @@
 
 use crate::runs::run_from_start;
 use crate::session::Session;
-use ddt_commands::Refusal;
-use ddt_moves::{is_stopped, take_line, type_line};
+use ddt_commands::{Refusal, first_character};
+use ddt_moves::{interrupt, take_line, type_line};
 use ddt_show::refuse;
 use ddt_timeline::{Entry, Timeline};
 use program_shell::PendingText;
+use std::alloc::AllocError;
 use word36::{Address, Word};
 
 /// A value: deposits it at the open address, and closes that.
@@ -40,21 +41,60 @@ pub fn start_at(session: &mut Session, timeline: &mut Timeline, address: u32) {
     let Some(address) = Address::try_new(address) else {
         return refuse(&mut session.answer, Refusal::NoWord);
     };
-    if !is_stopped(timeline.machine(), session.open) {
-        return refuse(&mut session.answer, Refusal::NotStopped);
-    }
     session.input.forget(timeline.happened());
+    match interrupt(timeline, session.open) {
+        Ok(true) => {}
+        Ok(false) => return refuse(&mut session.answer, Refusal::Gone),
+        Err(_) => return session.answer.fail(),
+    }
     match timeline.make(Entry::StartAt(session.open, address)) {
         Ok(_) => run_from_start(session, timeline),
         Err(_) => session.answer.fail(),
     }
 }
 
-/// `.TYPE line text`: types a text and a line end at a terminal line.
+/// Adds the characters that a text spells to some bytes; false where a backslash spells none.
+fn push_spelled(bytes: &mut Vec<u8>, text: &[u8]) -> Result<bool, AllocError> {
+    let mut rest = text;
+    for _ in 0..text.len() {
+        match first_character(rest) {
+            Some((byte, behind)) => {
+                bytes.push(byte)?;
+                rest = behind;
+            }
+            None => break,
+        }
+    }
+    Ok(rest.is_empty())
+}
+
+/// Types a text, as it is spelled, and RETURN at a terminal line. Where it is refused, nothing is typed, or what there is room
+/// for.
+fn type_spelled(
+    timeline: &mut Timeline,
+    line: u8,
+    text: &[u8],
+) -> Result<Option<Refusal>, AllocError> {
+    // Job 1 is at line 0, job 2 at line 1, and so on.
+    if timeline.machine().job(line.saturating_add(1)).is_none() {
+        return Ok(Some(Refusal::NoJobAtLine));
+    }
+    let mut bytes = Vec::new(timeline.alloc());
+    if !push_spelled(&mut bytes, text)? {
+        return Ok(Some(Refusal::NoCharacter));
+    }
+    if type_line(timeline, line, bytes.as_slice())? {
+        Ok(None)
+    } else {
+        Ok(Some(Refusal::LineFull))
+    }
+}
+
+/// `.TYPE line text`: types a text and RETURN at the terminal line of a job.
 pub fn type_at(answer: &mut PendingText, timeline: &mut Timeline, line: u8, text: &[u8]) {
-    match type_line(timeline, line, text) {
-        Ok(true) => {}
-        Ok(false) => refuse(answer, Refusal::LineFull),
+    match type_spelled(timeline, line, text) {
+        Ok(None) => {}
+        Ok(Some(refusal)) => refuse(answer, refusal),
         Err(_) => answer.fail(),
     }
 }

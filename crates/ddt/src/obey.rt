@@ -12,7 +12,7 @@ use crate::stop_commands::{
     set, show_stops, stop_at_circles, stop_at_grants, stop_at_lock, unset, watch,
 };
 use crate::tables::{open_job, show_jobs, show_locks, show_registers, show_waits};
-use ddt_commands::{Command, LineError, read_line};
+use ddt_commands::{Command, LineError, RUN_STEPS, read_line};
 use ddt_show::{add_help, next_address, previous_address};
 use ddt_timeline::{Entry, Timeline};
 use program_shell::PendingText;
@@ -122,6 +122,7 @@ fn makes_happen(command: &Command<'_>) -> bool {
         | Command::Execute(_)
         | Command::ExecuteCall
         | Command::Step(_)
+        | Command::Run(_)
         | Command::Tick(_)
         | Command::Type(_, _)
         | Command::Take => true,
@@ -139,7 +140,8 @@ fn obey_move(session: &mut Session, timeline: &mut Timeline, command: &Command<'
         Command::Deposit(word) => deposit(session, timeline, word),
         Command::Go => go(session, timeline),
         Command::GoAt(address) => start_at(session, timeline, address),
-        Command::Proceed(times) => proceed(session, timeline, times),
+        Command::Proceed(times) => proceed(session, timeline, times, RUN_STEPS as u32),
+        Command::Run(most) => proceed(session, timeline, 1, most),
         Command::Execute(count) => execute(session, timeline, count),
         Command::ExecuteCall => execute_call(session, timeline),
         Command::Step(count) => step(session, timeline, count),

@@ -58,9 +58,9 @@ fn report_change(
 /// Reports that a run that could make `most` steps ended with no stop: it made all of them, or no job goes on.
 fn report_no_stop(session: &mut Session, timeline: &Timeline, end: RunEnd, most: u32) {
     if end.is_cut {
-        let behind = " steps were made: $P goes on\n";
+        let behind = " steps were made, and jobs still run: $P goes on, .RUN n for n steps\n";
         session.answer.say_number("", u64::from(most), behind);
-        session.show_next(timeline);
+        session.show_jobs(timeline);
     } else {
         session.answer.say("no job goes on\n");
         session.show_jobs(timeline);

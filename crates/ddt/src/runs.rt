@@ -2,7 +2,7 @@
 
 use crate::run_ends::report_end;
 use crate::session::Session;
-use ddt_commands::Refusal;
+use ddt_commands::{RUN_STEPS, Refusal};
 use ddt_moves::{
     Cause, RunEnd, RunStops, begin, cause_at_start, go_on, is_stopped, run_to, start_jobs, stops_of,
 };
@@ -12,7 +12,7 @@ use std::alloc::AllocError;
 use word36::Word;
 
 /// The most steps of a run whose command gives no number of steps.
-const MOST_STEPS: u32 = 1_000_000_000;
+const MOST_STEPS: u32 = RUN_STEPS as u32;
 
 /// Makes steps until a stop holds, no job can go on, or `most` are made. A run stops at its own stops, which come first, and at
 /// those that the user set. Where a job waits for characters it types the next line of the input, as long as there is one.
@@ -91,7 +91,7 @@ pub fn go(session: &mut Session, timeline: &mut Timeline) {
             session.input.forget(happened);
             run_from_start(session, timeline);
         }
-        Ok(false) => refuse(&mut session.answer, Refusal::NotStopped),
+        Ok(false) => refuse(&mut session.answer, Refusal::Gone),
         Err(_) => session.answer.fail(),
     }
 }
@@ -100,18 +100,19 @@ pub fn go(session: &mut Session, timeline: &mut Timeline) {
 pub fn run_from_start(session: &mut Session, timeline: &mut Timeline) {
     let lines = session.lines();
     let begun = cause_at_start(timeline, 1, lines, &session.list);
-    proceed_from(session, timeline, begun, 1);
+    proceed_from(session, timeline, begun, 1, MOST_STEPS);
 }
 
-/// `n$P`: lets the jobs go on up to the n-th breakpoint, and continues the open one where CTRL-C or EXIT 1 stopped it.
-pub fn proceed(session: &mut Session, timeline: &mut Timeline, times: u32) {
+/// `n$P` and `.RUN n`: lets the jobs go on up to the n-th breakpoint, for `most` steps at most up to each, and continues the open
+/// one where CTRL-C or EXIT 1 stopped it.
+pub fn proceed(session: &mut Session, timeline: &mut Timeline, times: u32, most: u32) {
     let open = session.open;
     let begun = match go_on(timeline, open) {
         Ok(true) => cause_at_start(timeline, open, open, &session.list),
         Ok(false) => Ok(None),
         Err(error) => Err(error),
     };
-    proceed_from(session, timeline, begun, times);
+    proceed_from(session, timeline, begun, times, most);
 }
 
 /// Lets the jobs go on up to the n-th breakpoint. A job that was started or continued just now may stand where runs stop: then
@@ -121,11 +122,12 @@ fn proceed_from(
     timeline: &mut Timeline,
     begun: Result<Option<Cause>, AllocError>,
     times: u32,
+    most: u32,
 ) {
     // A cause may hold a word: the prover wants its type to be named.
     let _word: Option<Word> = None;
     let mut end = match begun {
-        Ok(None) => run(session, timeline, &[], MOST_STEPS),
+        Ok(None) => run(session, timeline, &[], most),
         Ok(cause) => RunEnd::at_once(cause),
         Err(_) => return session.answer.fail(),
     };
@@ -133,9 +135,9 @@ fn proceed_from(
         if !matches!(end.cause, Some(Cause::Breakpoint(_, _, _))) {
             break;
         }
-        end = run(session, timeline, &[], MOST_STEPS);
+        end = run(session, timeline, &[], most);
     }
-    report_end(session, timeline, end, MOST_STEPS);
+    report_end(session, timeline, end, most);
 }
 
 /// `n$X`: executes n instructions of the open job, and shows behind each the next one; fewer where the job is stopped, or another

@@ -5,7 +5,6 @@ use concrete_machine::Machine;
 use ddt_commands::{Refusal, Search, SearchKind};
 use ddt_show::refuse;
 use ddt_timeline::Timeline;
-use run_notes::effective_address;
 use word36::{BLOCK_WORDS, Word};
 
 /// Whether a search finds a word of a job.
@@ -15,8 +14,8 @@ fn is_found(machine: &Machine, number: u8, search: &Search, word: Word) -> bool 
     match search.kind {
         SearchKind::Equal => is_equal,
         SearchKind::NotEqual => !is_equal,
-        SearchKind::Address => match effective_address(machine, number, word) {
-            Some(address) => address == search.value.right(),
+        SearchKind::Address => match machine.effective_address(number, word) {
+            Some(address) => address.number() == search.value.right(),
             None => false,
         },
     }

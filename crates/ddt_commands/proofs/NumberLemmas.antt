@@ -1,25 +1,36 @@
 -- Digits that are read one after the other.
 use Rattle.std.specs.Prelude.{◌==◌, min, nat_lt, if◌then◌else◌}
 use Rattle.std.specs.List.{list_all}
-use Rattle.std.proofs.Common.{◌≡◌, ◌≤◌, ◌<◌, ◌+◌, ◌-◌, ◌*◌, ◌%◌, ◌^◌, ◌&&◌, ◌∙◌, ap, sym, ℕ, suc, Bool, true, false, List, [], ◌∷◌}
+use Rattle.std.proofs.Common.{◌≡◌, ◌≤◌, ◌<◌, ◌+◌, ◌-◌, ◌*◌, ◌^◌, ◌&&◌, ◌∙◌, ap, refl, sym, ℕ, suc, Bool, true, false, List, [], ◌∷◌}
 use Rattle.std.proofs.Common.{Some, None, length, get_or, drop, drop-cons, add-one, arith}
 use Rattle.std.proofs.lemmas.Bool.{false≢true, le-leb, lt-ltb}
+use Rattle.std.proofs.lemmas.Bool.Decides.{nat_tests}
+use Rattle.std.proofs.lemmas.Nat.{mul-le}
 use Rattle.ddt_commands.specs.Numbers.{is_digit, number_behind, number_of}
 
--- only the low 36 bits of what stands before count for the low 36 bits
-pub number_low : (ds : List ℕ) (a b : ℕ) → a % 2 ^ 36 ≡ b % 2 ^ 36 → number_behind 8 a ds % 2 ^ 36 ≡ number_behind 8 b ds % 2 ^ 36
-number_low [] a b same = same
-number_low (d ∷ ds) a b same =
-    let next : (a * 8 + (d - 48)) % 2 ^ 36 ≡ (b * 8 + (d - 48)) % 2 ^ 36 = omega (arith, same) in
-    number_low ds (a * 8 + (d - 48)) (b * 8 + (d - 48)) next
-
 -- what is too large stays so by more digits
-pub number_short : (ds : List ℕ) (a b : ℕ) → min (2 ^ 40) a ≡ min (2 ^ 40) b
-    → min (2 ^ 40) (number_behind 10 a ds) ≡ min (2 ^ 40) (number_behind 10 b ds)
-number_short [] a b same = same
-number_short (d ∷ ds) a b same =
-    let next : min (2 ^ 40) (a * 10 + (d - 48)) ≡ min (2 ^ 40) (b * 10 + (d - 48)) = omega (arith, same) in
-    number_short ds (a * 10 + (d - 48)) (b * 10 + (d - 48)) next
+by_size : (small : Bool) (radix d a b : ℕ) → nat_lt a (2 ^ 40) ≡ small → 2 ≤ radix → min (2 ^ 40) a ≡ min (2 ^ 40) b
+    → min (2 ^ 40) (a * radix + (d - 48)) ≡ min (2 ^ 40) (b * radix + (d - 48))
+by_size true radix d a b is least same =
+    let below : a < 2 ^ 40 = grind (arith, nat_tests, is) in
+    let equal : a ≡ b = omega (arith, below, same) in
+    ap (λ (n : ℕ). min (2 ^ 40) (n * radix + (d - 48))) equal
+by_size false radix d a b is least same =
+    let large : 2 ^ 40 ≤ a = grind (arith, nat_tests, is) in
+    let other : 2 ^ 40 ≤ b = omega (arith, large, same) in
+    let one : a * 1 ≤ a * radix = mul-le a 1 a radix (omega arith) (omega arith) in
+    let two : b * 1 ≤ b * radix = mul-le b 1 b radix (omega arith) (omega arith) in
+    omega (arith, large, other, one, two)
+
+short_on : (radix d a b : ℕ) → 2 ≤ radix → min (2 ^ 40) a ≡ min (2 ^ 40) b
+    → min (2 ^ 40) (a * radix + (d - 48)) ≡ min (2 ^ 40) (b * radix + (d - 48))
+short_on radix d a b least same = by_size (nat_lt a (2 ^ 40)) radix d a b refl least same
+
+pub number_short : (radix : ℕ) (ds : List ℕ) (a b : ℕ) → 2 ≤ radix → min (2 ^ 40) a ≡ min (2 ^ 40) b
+    → min (2 ^ 40) (number_behind radix a ds) ≡ min (2 ^ 40) (number_behind radix b ds)
+number_short radix [] a b least same = same
+number_short radix (d ∷ ds) a b least same =
+    number_short radix ds (a * radix + (d - 48)) (b * radix + (d - 48)) least (short_on radix d a b least same)
 
 a_digit : (radix byte : ℕ) → 48 ≤ byte → byte < 48 + radix → is_digit radix byte ≡ true
 a_digit radix byte least most =

@@ -1,5 +1,5 @@
 -- Numbers as they are typed: octal, or decimal with a point behind them (this project's profile).
-use Rattle.std.specs.Prelude.{ℕ, ◌+◌, ◌-◌, ◌*◌, ◌%◌, ◌^◌, ◌==◌, nat_le, nat_lt, ◌&&◌, Bool, List, [], ◌∷◌, length, take}
+use Rattle.std.specs.Prelude.{ℕ, ◌+◌, ◌-◌, ◌*◌, ◌^◌, ◌==◌, min, nat_le, nat_lt, ◌&&◌, Bool, List, [], ◌∷◌, length, take}
 use Rattle.std.specs.Prelude.{slice_index, Option, Some, None, if◌then◌else◌}
 use Rattle.std.specs.List.{list_all}
 
@@ -16,15 +16,10 @@ number_behind radix so_far (digit ∷ digits) = number_behind radix (so_far * ra
 abbrev pub number_of : ℕ → List ℕ → Option ℕ
 number_of radix text = if nat_lt 0 (length text) && list_all (is_digit radix) text then Some (number_behind radix 0 text) else None
 
--- its low 36 bits
-abbrev pub as_word : Option ℕ → Option ℕ
-as_word (Some number) = Some (number % 2 ^ 36)
-as_word None = None
-
--- a number below 2^40
-abbrev pub if_short : Option ℕ → Option ℕ
-if_short (Some number) = if nat_lt number (2 ^ 40) then Some number else None
-if_short None = None
+-- at most 2^40, which no command takes and no word holds
+abbrev pub capped : Option ℕ → Option ℕ
+capped (Some number) = Some (min (2 ^ 40) number)
+capped None = None
 
 -- whether a text has a point at its end; 46 is its code
 abbrev pub is_pointed : List ℕ → Bool
@@ -35,11 +30,11 @@ before_point text = take (length text - 1) text
 
 -- the number of decimal digits, with or without a point behind them
 abbrev pub decimal_in : List ℕ → Option ℕ
-decimal_in text = if_short (number_of 10 (if is_pointed text then before_point text else text))
+decimal_in text = capped (number_of 10 (if is_pointed text then before_point text else text))
 
--- that of octal digits, of which the last twelve count, or of decimal ones with a point behind them
+-- that of octal digits, or of decimal ones with a point behind them
 abbrev pub number_in : List ℕ → Option ℕ
-number_in text = if is_pointed text then if_short (number_of 10 (before_point text)) else as_word (number_of 8 text)
+number_in text = capped (if is_pointed text then number_of 10 (before_point text) else number_of 8 text)
 
 -- a number of times, from 1 to 10000 octal
 abbrev pub as_times : Option ℕ → Option ℕ

@@ -3,7 +3,7 @@
 use crate::commands::{Command, NewBreakpoint};
 use crate::escaped::{Escaped, cut_at_escape};
 use crate::line_errors::LineError;
-use crate::numbers::{decimal, times};
+use crate::numbers::{number, times};
 use crate::reader::{cut_word, is_blank};
 use crate::values::{Scope, read_address, read_value};
 use ddt_breakpoints::{BREAKPOINTS, Comparison, Condition};
@@ -117,7 +117,7 @@ pub fn read_breakpoint<'a>(
     limits: &[u8],
     scope: &Scope<'_>,
 ) -> Result<Command<'a>, LineError> {
-    let number = match decimal(line.digits) {
+    let number = match number(10, line.digits) {
         Some(number) if 1 <= number && number <= BREAKPOINTS as u64 => Some(number as u8),
         None if line.digits.is_empty() => None,
         _ => return Err(LineError::NoBreakpoint),

@@ -126,19 +126,21 @@ pub enum Command<'a> {
     Registers,
     /// `.TICK n`: lets n ticks go by.
     Tick(u32),
-    /// `.TYPE line text`: types a text and a line end at a terminal line, 0 to 63.
+    /// `.TYPE line text`: types a text, as it is spelled, and a RETURN at a terminal line, 0 to 63.
     Type(u8, &'a [u8]),
     /// `.TAKE`: shows what jobs have typed out.
     Take,
     /// `.STEP n`: makes n steps of the machine.
     Step(u32),
+    /// `.RUN n`: lets the jobs go on as `$P` does, for n steps at most.
+    Run(u32),
     /// `.BACK n`: goes n steps back.
     Back(u64),
     /// `.BACK TO a`: goes back to where the open job last stood at an address.
     BackTo(u32),
     /// `.BACK WRITE a`: goes back to before the step that last changed a word.
     BackWrite(u32),
-    /// `.FORWARD`: goes to where `.BACK` was typed.
+    /// `.FORWARD`: goes to the end of all that has happened.
     Forward,
     /// `.WATCH a`: watches a word, or no longer.
     Watch(u32),

@@ -11,8 +11,11 @@ use word36::{JOBS, LINES};
 /// The largest count of `.TICK`.
 const MOST_TICKS: u64 = 6000;
 
-/// The largest count of `.STEP`.
+/// The largest count of `.STEP` and `.RUN`.
 const MOST_STEPS: u64 = 1_000_000_000;
+
+/// How many steps `$G`, `$P`, `$X` and `.RUN` without a number go on for at most: some tenths of a second.
+pub const RUN_STEPS: u64 = 10_000_000;
 
 /// The largest count of `.HISTORY`.
 const MOST_HISTORY: u64 = 1000;
@@ -33,6 +36,7 @@ enum DotCommand {
     History,
     Job,
     Record,
+    Run,
     Save,
     Step,
     Tick,
@@ -53,7 +57,7 @@ enum LoneCommand {
 }
 
 /// The words of the dot commands.
-static WORDS: [(&str, DotCommand); 20] = [
+static WORDS: [(&str, DotCommand); 21] = [
     ("BACK", DotCommand::Back),
     ("BREAK", DotCommand::Break),
     ("DO", DotCommand::Do),
@@ -67,6 +71,7 @@ static WORDS: [(&str, DotCommand); 20] = [
     ("QUIT", DotCommand::Lone(LoneCommand::Quit)),
     ("RECORD", DotCommand::Record),
     ("REGS", DotCommand::Lone(LoneCommand::Regs)),
+    ("RUN", DotCommand::Run),
     ("SAVE", DotCommand::Save),
     ("STEP", DotCommand::Step),
     ("TAKE", DotCommand::Lone(LoneCommand::Take)),
@@ -97,11 +102,12 @@ fn count(text: &[u8], least: u64, most: u64, default: u64) -> Result<u64, LineEr
     }
 }
 
-/// Reads `.HISTORY n`, `.STEP n` and `.TICK n`.
+/// Reads `.HISTORY n`, `.RUN n`, `.STEP n` and `.TICK n`.
 fn read_counted<'a>(word: DotCommand, text: &[u8]) -> Result<Command<'a>, LineError> {
     let (most, default) = match word {
         DotCommand::History => (MOST_HISTORY, 10),
         DotCommand::Tick => (MOST_TICKS, 1),
+        DotCommand::Run => (MOST_STEPS, RUN_STEPS),
         _ => (MOST_STEPS, 1),
     };
     let count = count(text, 1, most, default)?;
@@ -111,6 +117,7 @@ fn read_counted<'a>(word: DotCommand, text: &[u8]) -> Result<Command<'a>, LineEr
     match word {
         DotCommand::History => Ok(Command::History(count)),
         DotCommand::Tick => Ok(Command::Tick(count)),
+        DotCommand::Run => Ok(Command::Run(count)),
         _ => Ok(Command::Step(count)),
     }
 }
@@ -191,7 +198,9 @@ pub fn read_dot_command<'a>(text: &'a [u8], scope: &Scope<'_>) -> Result<Command
         DotCommand::Do => Ok(Command::Do(rest)),
         DotCommand::Ex => read_examine(rest, scope),
         DotCommand::Help => Ok(Command::Help(rest)),
-        DotCommand::History | DotCommand::Step | DotCommand::Tick => read_counted(command, rest),
+        DotCommand::History | DotCommand::Run | DotCommand::Step | DotCommand::Tick => {
+            read_counted(command, rest)
+        }
         DotCommand::Job => match pointed_decimal(rest) {
             Some(number) if 1 <= number && number <= u64::from(JOBS) => {
                 Ok(Command::Job(number as u8))

@@ -1,7 +1,8 @@
 //! What is wrong with a line.
 
 use crate::characters::{Codes, sixbit_codes};
-use crate::numbers::{DECIMALS, LEAST_RADIX, MOST_RADIX, MOST_TIMES};
+use crate::limits::Limit;
+use crate::numbers::{LEAST_RADIX, MOST_RADIX, MOST_TIMES};
 use ddt_breakpoints::BREAKPOINTS;
 use std::fmt;
 use word36::{ADDRESSES, JOBS, LINES, Word};
@@ -13,8 +14,10 @@ pub enum LineError {
     Undefined(u64),
     /// A value is missing.
     NoValue,
-    /// Digits with a point behind them are no decimal number below 2^40.
+    /// What stands before a point is no decimal number.
     NoDecimal,
+    /// A value is beyond the limit of what it stands for.
+    Beyond(Limit),
     /// Digits are no octal number.
     NoOctal,
     /// There is no such command behind `$`.
@@ -89,6 +92,9 @@ impl LineError {
     fn text(&self) -> &'static str {
         match *self {
             LineError::NoValue => "? a value is wanted",
+            LineError::NoDecimal =>
+                "? a decimal number has digits from 0 to 9, and a point behind them",
+            LineError::Beyond(limit) => limit.text(),
             LineError::NoOctal => "? an octal number has digits from 0 to 7: 20. is 20 in decimal",
             LineError::NoEscape => "? there is no such command of $: .HELP lists them",
             LineError::NoParenthesis => "? a closing parenthesis is wanted",
@@ -115,13 +121,6 @@ impl fmt::Display for LineError {
         match *self {
             LineError::Undefined(name) => write_undefined(name, f),
             LineError::NoCount(least, most) => write_range(least, most, f),
-            LineError::NoDecimal => {
-                let most = DECIMALS - 1;
-                write!(
-                    f,
-                    "? a decimal number is 0 to {most}, with a point behind it"
-                )
-            }
             LineError::LargeAddress => {
                 let last = ADDRESSES - 1;
                 write!(f, "? an address is 0 to {last:o}, in octal")

@@ -5,17 +5,15 @@ use crate::commands::{Command, OutputMode, Retype, Search, SearchKind};
 use crate::dot_commands::read_dot_command;
 use crate::escaped::{Escaped, cut_at_escape};
 use crate::line_errors::LineError;
-use crate::numbers::{LEAST_RADIX, MOST_RADIX, decimal, times};
-use crate::reader::cut_at;
+use crate::numbers::{LEAST_RADIX, MOST_RADIX, number, times};
+use crate::reader::{cut_at, is_escape};
 use crate::values::{Scope, read_address, read_value};
 use word36::Word;
 
 /// Reads `n$P`, `n$X` and `$$X`; n is 1 where it is left out.
 fn read_run<'a>(line: Escaped<'_>) -> Result<Command<'a>, LineError> {
-    if line.letter == b'X' && line.before == b"$".as_slice() {
-        return Ok(Command::ExecuteCall);
-    }
     let times = match line.before {
+        [first] if line.letter == b'X' && is_escape(*first) => return Ok(Command::ExecuteCall),
         [] => Some(1),
         digits => times(digits),
     };
@@ -59,7 +57,7 @@ fn read_escaped<'a>(line: Escaped<'_>, scope: &Scope<'_>) -> Result<Command<'a>,
         b'G' => Err(LineError::NoEscape),
         b'P' | b'X' => read_run(line),
         b'W' | b'N' | b'E' => read_search(line, scope),
-        b'R' if line.before.is_empty() => match decimal(line.digits) {
+        b'R' if line.before.is_empty() => match number(10, line.digits) {
             Some(radix) if LEAST_RADIX <= radix && radix <= MOST_RADIX => {
                 Ok(Command::SetMode(OutputMode::Radix(radix as u8)))
             }

@@ -1,11 +1,10 @@
 //! Numbers in octal and in decimal.
-ghost use Rattle.std.specs.Prelude.{◌≡◌, ◌<◌, ◌^◌, IfSome};
-ghost use Rattle.ddt_commands.specs.Numbers.{as_times, as_word, decimal_in, if_short, number_in, number_of};
+ghost use Rattle.std.specs.Prelude.{◌≡◌, ◌≤◌, IfSome};
+ghost use Rattle.ddt_commands.specs.Numbers.{as_times, capped, decimal_in, number_in, number_of};
+ghost use Rattle.ddt_commands.specs.declared.numbers.TheConstants.{LARGE};
 
-use word36::Word;
-
-/// One more than the largest decimal number that is read.
-pub const DECIMALS: u64 = 1 << 40;
+/// A number that no command takes, and no word holds: what is larger is read as this.
+pub const LARGE: u64 = 1 << 40;
 
 /// The largest number before `$P` and `$X`, and behind TIMES: 10000 octal.
 pub const MOST_TIMES: u64 = 0o10000;
@@ -16,53 +15,36 @@ pub const LEAST_RADIX: u64 = 2;
 /// The largest radix of `$nR`.
 pub const MOST_RADIX: u64 = 16;
 
-/// The word of some octal digits, of which the last twelve count; `None` where there is no digit, or another character.
-#[tactic(auto, using(crate::proofs::NumberLemmas::number_low))]
-pub fn octal(text: &[u8]) -> Option<Word>
-    ensures { result ≡ as_word (number_of 8 text.now) }
-{
-    if text.is_empty() {
-        return None;
-    }
-    let mut value = Word::new(0);
-    for byte in text {
-        if *byte < b'0' || *byte > b'7' {
-            return None;
-        }
-        let digit = u64::from(*byte - b'0');
-        value = Word::low_bits(value.number() * 8 + digit);
-    }
-    Some(value)
-}
-
-/// The number of some decimal digits; `None` where there is no digit, or another character, or the number is 2^40 or more.
+/// The number of some digits of a radix up to 10, or `LARGE` where it is larger; `None` where there is no digit, or another
+/// character.
 #[tactic(auto, using(crate::proofs::NumberLemmas::number_short))]
-pub fn decimal(text: &[u8]) -> Option<u64>
-    ensures value { result ≡ if_short (number_of 10 text.now) }
-    ensures below { IfSome result (λ n. n < 2 ^ 40) }
+pub fn number(radix: u8, text: &[u8]) -> Option<u64>
+    requires { (2 ≤ radix) × (radix ≤ 10) }
+    ensures value { result ≡ capped (number_of radix text.now) }
+    ensures most { IfSome result (λ n. n ≤ LARGE) }
 {
     if text.is_empty() {
         return None;
     }
     let mut value = 0u64;
     for byte in text {
-        if *byte < b'0' || *byte > b'9' {
+        if *byte < b'0' || *byte - b'0' >= radix {
             return None;
         }
         let digit = u64::from(*byte - b'0');
-        value = value.saturating_mul(10).saturating_add(digit);
+        value = value.saturating_mul(u64::from(radix)).saturating_add(digit);
     }
-    if value < DECIMALS { Some(value) } else { None }
+    Some(value.min(LARGE))
 }
 
-/// The number of some decimal digits, with or without a point behind them, as `decimal` reads them.
+/// The number of some decimal digits, with or without a point behind them, as `number` reads it.
 pub fn pointed_decimal(text: &[u8]) -> Option<u64>
     ensures value { result ≡ decimal_in text.now }
-    ensures below { IfSome result (λ n. n < 2 ^ 40) }
+    ensures most { IfSome result (λ n. n ≤ LARGE) }
 {
     match text {
-        [digits @ .., b'.'] => decimal(digits),
-        digits => decimal(digits),
+        [digits @ .., b'.'] => number(10, digits),
+        digits => number(10, digits),
     }
 }
 
@@ -71,8 +53,8 @@ pub fn times(text: &[u8]) -> Option<u32>
     ensures { result ≡ as_times (number_in text.now) }
 {
     let times = match text {
-        [digits @ .., b'.'] => decimal(digits)?,
-        digits => octal(digits)?.number(),
+        [digits @ .., b'.'] => number(10, digits)?,
+        digits => number(8, digits)?,
     };
     if 1 <= times && times <= MOST_TIMES {
         Some(times as u32)

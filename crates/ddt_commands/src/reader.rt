@@ -21,11 +21,16 @@ pub fn cut_at(text: &[u8], byte: u8) -> Option<(&[u8], &[u8])> {
     None
 }
 
-/// The text before the last such byte, and the text behind it.
-pub fn cut_at_last(text: &[u8], byte: u8) -> Option<(&[u8], &[u8])> {
+/// Whether a byte stands for ESC: `$`, or ESC itself.
+pub fn is_escape(byte: u8) -> bool {
+    byte == b'$' || byte == 0o33
+}
+
+/// The text before the last ESC or `$`, and the text behind it.
+pub fn cut_at_last_escape(text: &[u8]) -> Option<(&[u8], &[u8])> {
     let mut parts = None;
     for (i, one) in text.iter().enumerate() {
-        if *one == byte {
+        if is_escape(*one) {
             parts = Some((&text[..i], &text[i + 1..]));
         }
     }

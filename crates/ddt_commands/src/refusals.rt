@@ -20,8 +20,8 @@ pub enum Refusal {
     NotSet,
     /// As many words are watched as can be.
     NoWatchFree,
-    /// The job is not stopped.
-    NotStopped,
+    /// The open job is gone.
+    Gone,
     /// Only so many steps were made.
     FewSteps(u64),
     /// No step has changed the word.
@@ -30,6 +30,10 @@ pub enum Refusal {
     NeverThere,
     /// The terminal line has no room.
     LineFull,
+    /// No job is at the terminal line.
+    NoJobAtLine,
+    /// A backslash spells no character.
+    NoCharacter,
     /// The first address is above the last.
     WrongOrder,
     /// The job has had no turn.
@@ -57,10 +61,14 @@ impl fmt::Display for Refusal {
             Refusal::NoWord => "? the job has no word there",
             Refusal::NoJob => "? there is no such job: .JOBS lists them",
             Refusal::NotSet => "? that breakpoint is not set",
-            Refusal::NotStopped => "? no job can be started: the open one is not stopped",
+            Refusal::Gone => "? no job can be started: the open one is gone",
             Refusal::NeverWritten => "? no step has changed that word",
             Refusal::NeverThere => "? the job did not stand there before any step",
             Refusal::LineFull => "? the terminal line has no room for more",
+            Refusal::NoJobAtLine => "? no job is at that terminal line: job 1 is at line 0",
+            Refusal::NoCharacter => {
+                "? a backslash stands before n, r, e, a backslash, or three octal digits up to 177"
+            }
             Refusal::WrongOrder => "? the first place is behind the last",
             Refusal::NoTurns => "? the job has had no turn",
             Refusal::NotFound => "? no word was found",

@@ -1,8 +1,11 @@
 //! Values: sums of numbers and symbols, two halves, and instructions.
 
+ghost use Rattle.std.specs.Prelude.{◌≤◌};
+
+use crate::limits::Limit;
 use crate::line_errors::LineError;
-use crate::numbers::{decimal, octal};
-use crate::reader::Reader;
+use crate::numbers::number;
+use crate::reader::{Reader, is_escape};
 use arrayvec::ArrayString;
 use ka_isa::named;
 use word36::{Word, sixbit};
@@ -27,6 +30,9 @@ pub struct Scope<'a> {
     /// The last quantity: `$Q`.
     pub last: Word,
 }
+
+/// The largest number of a word.
+const MOST_WORD: u64 = (1 << 36) - 1;
 
 /// How many characters of a name count.
 const NAME_CHARACTERS: usize = 6;
@@ -63,48 +69,73 @@ impl Scope<'_> {
     }
 }
 
-/// The value of a number or a name: digits are octal, or decimal with a point behind them.
-fn word_value(word: &[u8], scope: &Scope<'_>) -> Result<Word, LineError> {
+/// A word as a signed number of 36 bits.
+fn signed(word: Word) -> i64 {
+    let number = word.number() as i64;
+    if number < 1 << 35 {
+        number
+    } else {
+        number - (1 << 36)
+    }
+}
+
+/// The value of some digits of a radix, which is no larger than a word.
+fn typed(radix: u8, digits: &[u8], fault: LineError) -> Result<i64, LineError>
+    requires { (2 ≤ radix) × (radix ≤ 10) }
+{
+    match number(radix, digits) {
+        Some(number) if number <= MOST_WORD => Ok(number as i64),
+        Some(_) => Err(LineError::Beyond(Limit::Word)),
+        None => Err(fault),
+    }
+}
+
+/// The value of a number or a name: digits are octal, or decimal with a point behind them. What a name stands for is a signed
+/// number.
+fn word_value(word: &[u8], scope: &Scope<'_>) -> Result<i64, LineError> {
     match word {
         [] => Err(LineError::NoValue),
-        [b'.'] => Ok(scope.here),
+        [b'.'] => Ok(signed(scope.here)),
         [first, ..] if !first.is_ascii_digit() => {
             let name = name_of(word);
-            scope.value_of(name).ok_or(LineError::Undefined(name))
+            match scope.value_of(name) {
+                Some(value) => Ok(signed(value)),
+                None => Err(LineError::Undefined(name)),
+            }
         }
-        [digits @ .., b'.'] => match decimal(digits) {
-            Some(number) => Ok(Word::low_bits(number)),
-            None => Err(LineError::NoDecimal),
-        },
-        _ => octal(word).ok_or(LineError::NoOctal),
+        [digits @ .., b'.'] => typed(10, digits, LineError::NoDecimal),
+        _ => typed(8, word, LineError::NoOctal),
     }
 }
 
 /// Reads a term: a number, a name, `.` or `$Q`.
-fn term(reader: &mut Reader<'_>) -> Result<Word, LineError> {
+fn term(reader: &mut Reader<'_>) -> Result<i64, LineError> {
     reader.skip();
-    if reader.eat(b'$') {
-        return if reader.eat(b'Q') || reader.eat(b'q') {
-            Ok(reader.scope.last)
-        } else {
-            Err(LineError::NoEscape)
-        };
+    match reader.rest {
+        [first, b'Q' | b'q', rest @ ..] if is_escape(*first) => {
+            reader.rest = rest;
+            return Ok(signed(reader.scope.last));
+        }
+        [first, ..] if is_escape(*first) => return Err(LineError::NoEscape),
+        _ => {}
     }
     let word = reader.word();
     reader.skip();
     word_value(word, reader.scope)
 }
 
-/// Reads a sum of terms with `+` and `-`; a `-` may stand before the first.
-fn sum(reader: &mut Reader<'_>) -> Result<Word, LineError> {
+/// Reads a sum of terms with `+` and `-`; a `-` may stand before the first. It has as many bits as it takes.
+fn sum(reader: &mut Reader<'_>) -> Result<i64, LineError> {
     reader.skip();
-    let mut value = Word::new(0);
+    let mut value = 0i64;
     let mut is_minus = reader.eat(b'-');
     for _ in 0..reader.rest.len().saturating_add(1) {
         let term = term(reader)?;
-        // A word is taken away by its complement and one.
-        let added = if is_minus { term.not() } else { term };
-        value = value.sum(added, is_minus);
+        value = if is_minus {
+            value.saturating_sub(term)
+        } else {
+            value.saturating_add(term)
+        };
         is_minus = reader.eat(b'-');
         if !is_minus && !reader.eat(b'+') {
             break;
@@ -117,27 +148,27 @@ fn sum(reader: &mut Reader<'_>) -> Result<Word, LineError> {
 fn halves(reader: &mut Reader<'_>) -> Result<Word, LineError> {
     let first = sum(reader)?;
     let [b',', b',', rest @ ..] = reader.rest else {
-        return Ok(first);
+        return Ok(Word::low_bits(Limit::Word.bits(first)?));
     };
     reader.rest = rest;
     let second = sum(reader)?;
-    Ok(Word::join(first.right(), second.right()))
+    let left = Limit::Half.bits(first)?;
+    let right = Limit::Half.bits(second)?;
+    Ok(Word::low_bits(left << 18 | right))
 }
 
 /// The bit of an instruction that makes its address indirect.
 const INDIRECT: u64 = 1 << 22;
 
-/// Reads the address of an instruction, with or without `@`, as bits of its word. It is 0 where it is left out before an
-/// index register, or at the end where that is allowed.
-fn read_operand(reader: &mut Reader<'_>, may_be_empty: bool) -> Result<u64, LineError> {
+/// Reads the address of an instruction, whose `@` is passed already. It is 0 where it is left out before an index register, or at
+/// the end where that is allowed.
+fn read_operand(reader: &mut Reader<'_>, may_be_empty: bool) -> Result<i64, LineError> {
     reader.skip();
-    let indirect = if reader.eat(b'@') { INDIRECT } else { 0 };
-    let address = match reader.rest {
-        [] if may_be_empty => 0,
-        [b'(', ..] => 0,
-        _ => sum(reader)?.right(),
-    };
-    Ok(indirect | u64::from(address))
+    match reader.rest {
+        [] if may_be_empty => Ok(0),
+        [b'(', ..] => Ok(0),
+        _ => sum(reader),
+    }
 }
 
 /// Reads an index register in parentheses, as bits of an instruction; 0 where there is none.
@@ -149,7 +180,7 @@ fn index_register(reader: &mut Reader<'_>) -> Result<u64, LineError> {
     if !reader.eat(b')') {
         return Err(LineError::NoParenthesis);
     }
-    Ok((index.number() & 0o17) << 18)
+    Ok(Limit::Index.bits(index)? << 18)
 }
 
 /// Reads the accumulator, the address and the index register of an instruction, and adds them to its word.
@@ -159,13 +190,18 @@ fn with_operands(reader: &mut Reader<'_>, word: Word) -> Result<Word, LineError>
         return Ok(word);
     }
     let mut accumulator = 0;
+    let mut is_indirect = reader.eat(b'@');
     let mut address = read_operand(reader, false)?;
-    if address & INDIRECT == 0 && reader.eat(b',') {
-        accumulator = (address & 0o17) << 23;
+    if !is_indirect && reader.eat(b',') {
+        accumulator = Limit::Accumulator.bits(address)? << 23;
+        reader.skip();
+        is_indirect = reader.eat(b'@');
         address = read_operand(reader, true)?;
     }
+    let address = Limit::Address.bits(address)?;
     let index = index_register(reader)?;
-    let number = word.number() | accumulator | index | address;
+    let indirect = if is_indirect { INDIRECT } else { 0 };
+    let number = word.number() | accumulator | index | indirect | address;
     Ok(Word::low_bits(number))
 }
 

@@ -6,3 +6,4 @@ mod EndLemmas
 mod TurnLemmas
 mod StartLemmas
 mod TerminalLemmas
+pub mod LockCallLemmas

@@ -12,7 +12,7 @@ use Rattle.ddt_timeline.specs.Histories.{History, done, machine_of}
 use Rattle.ddt_timeline.specs.Timelines.{answer_to}
 use Rattle.ddt_timeline.specs.declared.entries.Entry.TheVariants.{Take, Typed}
 use Rattle.ddt_moves.specs.Terminals.{finds_no_room, is_full, line_has_room, next_text, taken_text}
-use Rattle.ddt_moves.specs.Terminals.{takes, text_in, typed_byte, typed_line}
+use Rattle.ddt_moves.specs.Terminals.{takes, text_in, typed_byte, typed_bytes, typed_line}
 
 -- ---- what is typed
 
@@ -191,3 +191,48 @@ all-pushed bytes more items text i pushed over same =
     ∙ ap (λ (l : List ℕ). more ++ l) (sym (drop_all i items over))
     ∙ pushed
     ∙ ap (λ (l : List ℕ). bytes ++ l) same
+
+-- behind the text comes CR: the last if there is no room for it
+pub return-full : (line i : ℕ) (typed : List ℕ) (h next all : History) (room : Bool) → length typed ≤ i
+    → next ≡ typed_byte line 13 h → room ≡ not (finds_no_room line 13 h) → room ≡ false
+    → typed_line line (drop i typed) h ≡ all → next ≡ all
+return-full line i typed h next all room end made seen full before =
+    made
+    ∙ ap
+    (λ (b : Bool). if b then typed_byte line 13 h else typed_bytes line (10 ∷ []) (typed_byte line 13 h))
+    (sym (not-false _ room seen full))
+    ∙ ap (λ (l : List ℕ). typed_line line l h) (sym (drop_all i typed end))
+    ∙ before
+
+either-way : (b : Bool) (h : History) → h ≡ (if b then h else h)
+either-way true h = refl
+either-way false h = refl
+
+-- and behind it LF, whether there is room for that or not
+pub return-typed : (line i : ℕ) (typed : List ℕ) (h middle next all : History) (room : Bool) → length typed ≤ i
+    → middle ≡ typed_byte line 13 h → room ≡ not (finds_no_room line 13 h) → room ≡ true → next ≡ typed_byte line 10 middle
+    → typed_line line (drop i typed) h ≡ all → next ≡ all
+return-typed line i typed h middle next all room end made seen has last before =
+    last
+    ∙ ap (typed_byte line 10) made
+    ∙ either-way (finds_no_room line 10 (typed_byte line 13 h)) (typed_byte line 10 (typed_byte line 13 h))
+    ∙ ap
+    (λ (b : Bool). if b then typed_byte line 13 h else typed_bytes line (10 ∷ []) (typed_byte line 13 h))
+    (sym (not-true _ room seen has))
+    ∙ ap (λ (l : List ℕ). typed_line line l h) (sym (drop_all i typed end))
+    ∙ before
+
+and-so : (b : Bool) → b ≡ (b && true)
+and-so true = refl
+and-so false = refl
+
+pub return-room : (line i : ℕ) (typed : List ℕ) (h middle : History) (room last all : Bool) → length typed ≤ i
+    → middle ≡ typed_byte line 13 h → room ≡ not (finds_no_room line 13 h) → room ≡ true
+    → last ≡ not (finds_no_room line 10 middle) → line_has_room line (drop i typed) h ≡ all → last ≡ all
+return-room line i typed h middle room last all end made seen has found before =
+    found
+    ∙ ap (λ (m : History). not (finds_no_room line 10 m)) made
+    ∙ and-so (not (finds_no_room line 10 (typed_byte line 13 h)))
+    ∙ ap (λ (b : Bool). not b && (not (finds_no_room line 10 (typed_byte line 13 h)) && true)) (sym (not-true _ room seen has))
+    ∙ ap (λ (l : List ℕ). line_has_room line l h) (sym (drop_all i typed end))
+    ∙ before

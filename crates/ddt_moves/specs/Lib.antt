@@ -1,5 +1,6 @@
 pub mod Edits
 pub mod Input
+pub mod LockCalls
 pub mod OtherEnds
 pub mod Replays
 pub mod RunEnds

@@ -16,6 +16,7 @@ use Rattle.ddt_moves.specs.declared.run_stops.Cause.TheVariants as cause
 use Rattle.ddt_moves.specs.declared.stop_lists.Breakpoint.{Breakpoint}
 use Rattle.ddt_moves.specs.declared.stop_lists.StopList.{StopList}
 use Rattle.ddt_moves.specs.declared.visits.Counter.{Counter}
+use Rattle.ddt_moves.specs.LockCalls.{stands_at_lock}
 use Rattle.ddt_moves.specs.Visits.{first_due, stepped}
 
 -- whether one of the requests of a state is granted there and was waiting among some others
@@ -66,8 +67,8 @@ if_breakpoint (Some (cause.Call job)) = None
 if_breakpoint (Some cause.Grant) = None
 
 -- whether this may be why a run ends in a state where none of its stops holds, if it ends there; whether a grant at which it stops was
--- made in its last round is given: at a breakpoint of this number that counts, where its job stands; before a call on the lock of
--- the list; or at the grant. Where there was a grant, it ends
+-- made in its last round is given: at a breakpoint of this number that counts, where its job stands; where this job stands before
+-- a call on the lock of the list; or at the grant. Where there was a grant, it ends
 abbrev pub ends_for : StopList → S → Bool → Option Cause → Bool
 ends_for list s granted None = not granted
 ends_for list s granted (Some (cause.Breakpoint number job address)) =
@@ -76,7 +77,7 @@ ends_for list s granted (Some (cause.Word job address was)) = false
 ends_for list s granted (Some cause.Circle) = false
 ends_for list s granted (Some cause.Own) = false
 ends_for list s granted (Some cause.Input) = false
-ends_for list s granted (Some (cause.Call job)) = is_some list.lock
+ends_for list s granted (Some (cause.Call job)) = stands_at_lock list.lock s job
 ends_for list s granted (Some cause.Grant) = granted
 
 -- whether a run ends at a grant

@@ -5,9 +5,10 @@ use Rattle.std.specs.List.{list_any, range_with_len}
 use Rattle.job_sched.specs.declared.job.Stop.{Stop}
 use Rattle.job_sched.specs.declared.job.Stop.TheVariants as stop
 use Rattle.machine.specs.Machine.{S}
+use Rattle.machine.specs.declared.sizes.TheConstants.{INTERRUPT_CHARACTER}
 use Rattle.machine.specs.Views.{job_view}
 use Rattle.machine.specs.declared.view.JobView.{JobView}
-use Rattle.ddt_timeline.specs.declared.entries.Entry.TheVariants.{Start, Continue}
+use Rattle.ddt_timeline.specs.declared.entries.Entry.TheVariants.{Start, Continue, Typed}
 use Rattle.ddt_timeline.specs.Histories.{History, done, machine_of}
 use Rattle.ddt_moves.specs.OtherEnds.{cause_of_breakpoint, stands}
 use Rattle.ddt_moves.specs.declared.run_stops.Cause.{Cause}
@@ -66,13 +67,21 @@ abbrev pub all_started : List ℕ → History → History
 all_started [] h = h
 all_started (n ∷ ns) h = all_started ns (started_if_new n h)
 
--- whether a job can be started now
-abbrev pub may_start : History → ℕ → Bool
-may_start h n = is_stopped (job_view (machine_of h).world n)
+-- whether a job is there
+abbrev pub is_there : History → ℕ → Bool
+is_there h n = is_some (job_view (machine_of h).world n)
 
--- what has happened where a job was to be started if it was stopped
-abbrev pub started_if_stopped : ℕ → History → History
-started_if_stopped n h = if may_start h n then done h (Start n ∷ []) else h
+-- what has happened where a job was to be stopped, as CTRL-C at its line stops it, if it was not stopped yet
+abbrev pub interrupted_by : Option JobView → History → History
+interrupted_by (Some view) h = if is_some view.stop then h else done h (Typed view.line INTERRUPT_CHARACTER ∷ [])
+interrupted_by None h = h
+
+abbrev pub interrupted : ℕ → History → History
+interrupted n h = interrupted_by (job_view (machine_of h).world n) h
+
+-- what has happened where a job that is there was to be started again
+abbrev pub started_again : ℕ → History → History
+started_again n h = if is_there h n then done (interrupted n h) (Start n ∷ []) else h
 
 -- the numbers of the jobs at so many lines: from 1 on, up to 254 at most
 abbrev pub jobs_at : ℕ → List ℕ
@@ -80,11 +89,11 @@ jobs_at lines = range_with_len 1 (min 254 lines)
 
 -- what has happened where these jobs were to be started, and the open one where there was none that was not started yet
 abbrev pub jobs_started : ℕ → ℕ → History → History
-jobs_started lines own h = if list_any (is_new h) (jobs_at lines) then all_started (jobs_at lines) h else started_if_stopped own h
+jobs_started lines own h = if list_any (is_new h) (jobs_at lines) then all_started (jobs_at lines) h else started_again own h
 
 -- whether one was started
 abbrev pub is_some_started : ℕ → ℕ → History → Bool
-is_some_started lines own h = list_any (is_new h) (jobs_at lines) || may_start h own
+is_some_started lines own h = list_any (is_new h) (jobs_at lines) || is_there h own
 
 -- ---- jobs that stand where runs stop, before any step
 

@@ -33,12 +33,12 @@ abbrev pub have_room : ℕ → List ℕ → History → Bool
 have_room line [] h = true
 have_room line (byte ∷ bytes) h = not (finds_no_room line byte h) && have_room line bytes (typed_byte line byte h)
 
--- a text is typed, with LF behind it
+-- a text is typed, and RETURN, for which TOPS-10 hands CR and LF to a program
 abbrev pub typed_line : ℕ → List ℕ → History → History
-typed_line line text h = typed_bytes line (text ++ 10 ∷ []) h
+typed_line line text h = typed_bytes line (text ++ 13 ∷ 10 ∷ []) h
 
 abbrev pub line_has_room : ℕ → List ℕ → History → Bool
-line_has_room line text h = have_room line (text ++ 10 ∷ []) h
+line_has_room line text h = have_room line (text ++ 13 ∷ 10 ∷ []) h
 
 -- ---- what is taken
 

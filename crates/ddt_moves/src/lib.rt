@@ -4,6 +4,7 @@
 mod edits;
 mod ends;
 mod input;
+mod lock_calls;
 mod lock_watch;
 mod past_steps;
 mod replays;
@@ -22,7 +23,7 @@ pub use past_steps::{Turns, last_at, last_turns, last_write};
 pub use replays::Replay;
 pub use run_stops::{Cause, RunStops, stops_of};
 pub use runs::{RunEnd, run_to};
-pub use starts::{begin, cause_at_start, go_on, is_stopped, start_jobs};
+pub use starts::{begin, cause_at_start, go_on, interrupt, is_stopped, start_jobs};
 pub use stop_lists::{Breakpoint, StopList, WatchedWord};
 pub use terminals::{take_line, type_line};
 pub use turns::{next_instruction, turn_at};

@@ -10,16 +10,17 @@ ghost use Rattle.ddt_moves.specs.OtherEnds.{seen_by, sees_grant};
 ghost use Rattle.ddt_moves.specs.OtherEnds.{counters_of as counters_in};
 ghost use Rattle.ddt_moves.specs.Visits.{counters, first_due, stepped};
 
+use crate::lock_calls::stands_before;
 use crate::run_stops::Cause;
 use crate::stop_lists::StopList;
 use crate::turns::{NUMBERS, pcs_of};
 use crate::visits::{Counter, counted_cause, counters_of, see_rounds};
 use concrete_machine::Machine;
 use ddt_timeline::{Timeline, Watch};
-use lock_queue::{Name, Request};
+use lock_queue::Request;
 use run_facts::is_new_grant;
-use run_notes::{PendingCall, snapshot_of};
 use std::alloc::{AllocError, Global};
+use uuo_calls::BlockRoom;
 use word36::{Address, JOBS, Word};
 
 /// A watch that ends a run at a breakpoint that counts, at a grant, or before a call on a lock.
@@ -33,79 +34,61 @@ pub struct LockWatch<'a> {
     pub requests: Vec<Request>,
     /// The PC of each job before the round, where runs stop before calls.
     pcs: [Option<Address>; NUMBERS],
+    /// Room for the block of a call before which a job stands.
+    room: BlockRoom,
     /// Why the run ended, if this watch ended it.
     pub cause: Option<Cause>,
     /// Whether there was too little memory to look.
     pub has_failed: bool,
 }
 
-/// Whether a job, which is not stopped, stands before a call on a lock of this name.
-fn stands_at_call(
-    alloc: Global,
-    machine: &Machine,
-    number: u8,
-    name: &Name,
-) -> Result<bool, AllocError> {
-    let Some(view) = machine.job(number) else {
-        return Ok(false);
-    };
-    if view.stop.is_some() {
-        return Ok(false);
-    }
-    let snapshot = snapshot_of(machine, number, view.pc);
-    match PendingCall::of(alloc, machine, number, &snapshot)? {
-        Some(call) => Ok(call.is_on(machine, number, name)),
-        None => Ok(false),
-    }
-}
-
 /// Why a run does not begin: the first job, of those from `first` to `last`, that stands before a call on the lock of
 /// `.BREAK LOCK`.
 pub(crate) fn first_standing(
-    alloc: Global,
     machine: &Machine,
     first: u8,
     last: u8,
     list: &StopList,
-) -> Result<Option<Cause>, AllocError>
-    ensures ends { IfOk result (λ cause. ends_for list.now machine.now false cause ≡ true) }
-    ensures other { IfOk result (λ cause. if_breakpoint cause ≡ None) }
+) -> Option<Cause>
+    ensures ends { ends_for list.now machine.now false result ≡ true }
+    ensures other { if_breakpoint result ≡ None }
 {
     let Some(name) = &list.lock else {
-        return Ok(None);
+        return None;
     };
+    let mut room = BlockRoom::new();
     for number in first..last.saturating_add(1) {
-        if stands_at_call(alloc, machine, number, name)? {
-            return Ok(Some(Cause::Call(number)));
+        if stands_before(machine, number, name, &mut room) {
+            return Some(Cause::Call(number));
         }
     }
-    Ok(None)
+    None
 }
 
 /// The first job that came to a call on the lock of `.BREAK LOCK` in a round in which a job ran: it had its turn, or a tick changed
 /// its PC. `before` has the PC of each job before the round, and `pcs` behind it.
 fn first_caller(
-    alloc: Global,
     machine: &Machine,
     list: &StopList,
     before: &[Option<Address>; NUMBERS],
     pcs: &[Option<Address>; NUMBERS],
     ran: Option<u8>,
-) -> Result<Option<Cause>, AllocError>
-    ensures ends { IfOk result (λ cause. ends_for list.now machine.now false cause ≡ true) }
-    ensures other { IfOk result (λ cause. if_breakpoint cause ≡ None) }
+    room: &mut BlockRoom,
+) -> Option<Cause>
+    ensures ends { ends_for list.now machine.now false result ≡ true }
+    ensures other { if_breakpoint result ≡ None }
 {
     let Some(name) = &list.lock else {
-        return Ok(None);
+        return None;
     };
     for number in 1..JOBS + 1 {
         let slot = usize::from(number);
         let has_come = ran == Some(number) || pcs[slot] != before[slot];
-        if has_come && stands_at_call(alloc, machine, number, name)? {
-            return Ok(Some(Cause::Call(number)));
+        if has_come && stands_before(machine, number, name, room) {
+            return Some(Cause::Call(number));
         }
     }
-    Ok(None)
+    None
 }
 
 /// Whether one of some requests is granted and was not granted before.
@@ -153,6 +136,7 @@ impl<'a> LockWatch<'a> {
             counters: counters_of(timeline, list)?,
             requests: machine.requests(alloc)?,
             pcs: pcs_of(machine),
+            room: BlockRoom::new(),
             cause: None,
             has_failed: false,
         })
@@ -196,9 +180,9 @@ impl<'a> LockWatch<'a> {
             return Ok(Some(Cause::Grant));
         }
         let pcs = pcs_of(machine);
-        let cause = first_caller(self.alloc, machine, self.list, &self.pcs, &pcs, ran);
+        let cause = first_caller(machine, self.list, &self.pcs, &pcs, ran, &mut self.room);
         self.pcs = pcs;
-        cause
+        Ok(cause)
     }
 }
 

@@ -5,7 +5,8 @@ ghost use Rattle.machine.specs.Views.{job_view};
 ghost use Rattle.ddt_timeline.specs.Histories.{done, machine_of};
 ghost use Rattle.ddt_timeline.specs.Views.{history};
 ghost use Rattle.ddt_timeline.specs.declared.entries.Entry.TheVariants.{Start};
-ghost use Rattle.ddt_moves.specs.Starts.{begun, cause_in, gone_on, holds_at_start, is_loaded, is_some_started, is_stopped, jobs_started};
+ghost use Rattle.ddt_moves.specs.Starts.{begun, cause_in, gone_on, holds_at_start, interrupted, is_loaded, is_some_started, is_stopped};
+ghost use Rattle.ddt_moves.specs.Starts.{is_there, jobs_started};
 ghost use Rattle.ddt_moves.specs.Starts.{may_continue};
 ghost use Rattle.ddt_moves.specs.OtherEnds.{counted_cause, ends_for, if_breakpoint};
 ghost use Rattle.ddt_moves.specs.Visits.{counters, first_due_at_start};
@@ -17,7 +18,9 @@ use crate::visits::{counted_cause, counters_of, stands};
 use concrete_machine::Machine;
 use ddt_timeline::{Entry, Timeline};
 use job_sched::Stop;
+use machine::INTERRUPT_CHARACTER;
 use std::alloc::AllocError;
+use tty_lines::Char7;
 use word36::Word;
 
 /// Whether a job was not started yet.
@@ -58,8 +61,23 @@ fn start(timeline: &mut Timeline, number: u8) -> Result<(), AllocError>
     Ok(())
 }
 
-/// Starts the jobs at the first `lines` terminal lines that were not started yet. Where there is none, it starts the open job;
-/// false where that one is not stopped.
+/// Stops a job that goes on or waits, by CTRL-C at its line. False where the job is not there.
+pub fn interrupt(timeline: &mut Timeline, number: u8) -> Result<bool, AllocError>
+    ensures there { IfOk result (λ there. there ≡ is_there (history timeline.old) number) }
+    ensures happened { OnOk result (history timeline.new ≡ interrupted number (history timeline.old)) }
+{
+    let Some(view) = timeline.machine().job(number) else {
+        return Ok(false);
+    };
+    if view.stop.is_none() {
+        let control_c = Char7::new(INTERRUPT_CHARACTER);
+        timeline.make(Entry::Typed(view.line.number(), control_c))?;
+    }
+    Ok(true)
+}
+
+/// Starts the jobs at the first `lines` terminal lines that were not started yet. Where there is none, it starts the open job
+/// again, which CTRL-C stops before; false where that one is gone.
 pub fn start_jobs(timeline: &mut Timeline, lines: u8, open: u8) -> Result<bool, AllocError>
     ensures happened { OnOk result (history timeline.new ≡ jobs_started lines «open» (history timeline.old)) }
     ensures any { IfOk result (λ any. any ≡ is_some_started lines «open» (history timeline.old)) }
@@ -71,7 +89,7 @@ pub fn start_jobs(timeline: &mut Timeline, lines: u8, open: u8) -> Result<bool, 
             any = true;
         }
     }
-    if !any && is_stopped(timeline.machine(), open) {
+    if !any && interrupt(timeline, open)? {
         start(timeline, open)?;
         any = true;
     }
@@ -165,7 +183,7 @@ fn other_cause(
             return Ok(counted_cause(machine, list, counter.slot()));
         }
     }
-    first_standing(timeline.alloc(), machine, first, last, list)
+    Ok(first_standing(machine, first, last, list))
 }
 
 /// Why a run makes no step where the jobs from `first` to `last` were started or continued just now: one of them stands at a

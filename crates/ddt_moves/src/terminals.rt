@@ -27,7 +27,7 @@ fn type_byte(timeline: &mut Timeline, line: u8, byte: u8) -> Result<bool, AllocE
     }
 }
 
-/// Types a text and a line end at a line; false where the line has no room for all of it.
+/// Types a text and RETURN, which is CR and LF, at a line; false where the line has no room for all of it.
 pub fn type_line(timeline: &mut Timeline, line: u8, typed: &[u8]) -> Result<bool, AllocError>
     ensures happened { OnOk result (history timeline.new ≡ typed_line line typed.now (history timeline.old)) }
     ensures room { IfOk result (λ has_room. has_room ≡ line_has_room line typed.now (history timeline.old)) }
@@ -36,6 +36,9 @@ pub fn type_line(timeline: &mut Timeline, line: u8, typed: &[u8]) -> Result<bool
         if !type_byte(timeline, line, *byte)? {
             return Ok(false);
         }
+    }
+    if !type_byte(timeline, line, b'\r')? {
+        return Ok(false);
     }
     type_byte(timeline, line, b'\n')
 }

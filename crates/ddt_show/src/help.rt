@@ -3,7 +3,7 @@
 use program_shell::PendingText;
 
 /// A line on each command, which stands in the first 16 characters.
-static COMMANDS: [&str; 42] = [
+static COMMANDS: [&str; 43] = [
     "a/               opens a place and shows its word",
     "(empty)          the next place; ^ the one before; TAB the one that the last word addresses",
     "value            puts the value in the place that is open",
@@ -16,7 +16,7 @@ static COMMANDS: [&str; 42] = [
     "0$nB             takes breakpoint n away",
     "$B               the breakpoints, and what else runs stop at",
     "$G               starts the jobs that were not started, or the open one again, and runs",
-    "a$G              starts the open job at a, and runs",
+    "a$G              starts the open job at a, and runs; CTRL-C stops it before",
     "n$P              goes on until the n-th breakpoint; n is octal: 20$P is sixteen, 20.$P twenty",
     "n$X              shows n instructions of the open job; n is octal: 20$X is sixteen, 20.$X twenty",
     "$$X              up to the place behind the instruction, or the one behind that: a call returns there",
@@ -25,7 +25,7 @@ static COMMANDS: [&str; 42] = [
     ".JOB n           opens job n; numbers behind commands with a point are decimal",
     ".JOBS            how all jobs stand",
     ".LOCKS           the requests for locks, in order of arrival",
-    ".WAITS           who waits for whom, hard or soft, and circles",
+    ".WAITS           who waits for whom, and circles",
     ".REGS            the accumulators and the PC of the open job",
     ".HISTORY n       the last n turns of the open job; n is decimal, 1 to 1000",
     ".WATCH a         runs stop where the word at a changes, or no longer",
@@ -34,14 +34,15 @@ static COMMANDS: [&str; 42] = [
     ".BREAK CIRCLE    runs stop where jobs wait for each other in a circle, or no longer",
     ".BREAK a         as a$B, also with IF and TIMES",
     ".STEP n          n steps of the machine; n is decimal",
+    ".RUN n           goes on as $P, for n steps at most; n is decimal; $G, $P and $X go on for 10000000",
     ".TICK n          n ticks go by; n is decimal, 1 to 6000",
-    ".TYPE l text     types a text and a line end at terminal line l",
+    ".TYPE l text     types a text and RETURN at terminal line l; \\r \\n \\e \\\\ and \\ooo (octal) are characters",
     ".TAKE            what jobs have typed out",
     ".EX a-b          shows the words from a to b",
     ".BACK n          n steps back; n is decimal: .BACK 20 is twenty",
     ".BACK TO a       to before the last step for which the open job stood at a",
     ".BACK WRITE a    to before the step that last changed the word at a",
-    ".FORWARD         to where .BACK was typed",
+    ".FORWARD         to the end of all that has happened",
     ".SAVE file.ddt   writes the lines so far, as a script; .DO file obeys the lines of a file",
     ".RECORD file.run writes what has happened as a script of `lockmon run`, where nothing was changed by hand",
     "; text           a remark",

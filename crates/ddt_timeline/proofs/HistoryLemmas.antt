@@ -2,7 +2,7 @@
 use Rattle.std.proofs.Common.{◌≡◌, ◌<◌, ◌≤◌, ◌∙◌, ◌+◌, ◌++◌, ◌||◌, sym, ap, ℕ, zero, suc, Bool, true, false, List, [], ◌∷◌, refl, arith}
 use Rattle.std.proofs.Common.{take, drop, length, get_or, replicate, nat_lt, nat_le, append_assoc, append-nil}
 use Rattle.std.proofs.lemmas.Bool.{eqb-true, le-leb, ltb-true}
-use Rattle.std.proofs.lemmas.List.{take-append-drop}
+use Rattle.std.proofs.lemmas.List.{replicate-append-replicate, take-append-drop}
 use Rattle.machine.specs.Machine.{S, after, ticked}
 use Rattle.machine.specs.Rounds.{rounds}
 use Rattle.ddt_timeline.specs.Timelines.{answer_to, made, played, reached, steps_in, steps_of, ticked_so_often, ticks_in, ticks_of}
@@ -10,6 +10,7 @@ use Rattle.ddt_timeline.specs.Histories.{ahead_in, at_end, done, history_of, is_
 use Rattle.ddt_timeline.specs.declared.entries.Entry.{Entry}
 use Rattle.ddt_timeline.specs.declared.entries.Entry.TheVariants.{Rounds, Login, Start, Continue, Kill, Typed, Take, Ticks}
 use Rattle.ddt_timeline.specs.declared.entries.Entry.TheVariants.{Deposit, StartAt}
+use Rattle.ddt_timeline.proofs.AtOnce.{rounds-behind}
 use Rattle.ddt_timeline.proofs.RunLemmas.{get-last, played-append}
 use Rattle.machine.specs.declared.event.Answer.{Answer}
 
@@ -260,16 +261,26 @@ more_history es es' e whole part b all none items =
     (none-ahead es' (whole + 1) 0 end')
     ∙ ap (λ (n : ℕ). done (history_of b es whole n) (things_of e)) (sym none)
 
--- steps behind all entries
-pub run_history : (es : List Entry) (whole part made : ℕ) (b : S) → whole ≡ length es → part ≡ 0
-    → history_of b es whole made ≡ done (history_of b es whole part) (replicate made one_step)
-run_history es whole part made b all none =
+-- more steps behind all entries
+pub run_history : (es : List Entry) (whole part more n : ℕ) (b : S) → whole ≡ length es → n ≡ part + more
+    → history_of b es whole n ≡ done (history_of b es whole part) (replicate more one_step)
+run_history es whole part more n b all sum =
     let end : length es ≤ whole = omega (arith, all) in
     same_history b _ _ _ _
-    (past-end es whole made end
-    ∙ ap (λ (l : List Entry). l ++ replicate made one_step) (sym (append-nil (things_in es)) ∙ sym (past-end es whole 0 end)))
-    (none-ahead es whole made end)
-    ∙ ap (λ (n : ℕ). done (history_of b es whole n) (replicate made one_step)) (sym none)
+    (past-end es whole n end
+    ∙ ap (λ (k : ℕ). things_in es ++ replicate k one_step) sum
+    ∙ ap (λ (l : List Entry). things_in es ++ l) (sym (replicate-append-replicate part more one_step))
+    ∙ sym (append_assoc (things_in es) (replicate part one_step) (replicate more one_step))
+    ∙ ap (λ (l : List Entry). l ++ replicate more one_step) (sym (past-end es whole part end)))
+    (none-ahead es whole n end)
+
+pub run_reached : (es : List Entry) (whole part more n : ℕ) (m m' s : S) → n ≡ part + more → m ≡ reached es whole part s
+    → m' ≡ after (rounds more true) m → m' ≡ reached es whole n s
+run_reached es whole part more n m m' s sum there made_so =
+    made_so
+    ∙ ap (λ (x : S). after (rounds more true) x) there
+    ∙ sym (rounds-behind part more (played (take whole es) s))
+    ∙ ap (λ (k : ℕ). reached es whole k s) (sym sum)
 
 -- behind all entries all has happened
 pub end_history : (es : List Entry) (whole part n : ℕ) (b : S) → is_place (drop whole es) part ≡ true → n ≡ length es

@@ -1,6 +1,6 @@
 -- Entries, and the single things that they are, as the events of a run.
 use Rattle.std.specs.List.{list_all}
-use Rattle.std.proofs.Common.{◌≡◌, ◌∙◌, ◌++◌, ◌&&◌, sym, ap, ℕ, zero, suc, ◌+◌, Bool, true, false, List, [], ◌∷◌, refl, arith, append_assoc, append-nil, replicate, take}
+use Rattle.std.proofs.Common.{◌≡◌, ◌∙◌, ◌++◌, ◌&&◌, sym, ap, ℕ, zero, suc, Bool, true, false, List, [], ◌∷◌, refl, append_assoc, append-nil, replicate, take}
 use Rattle.std.proofs.lemmas.List.Folds.{list_all-append}
 use Rattle.machine.specs.Machine.{S}
 use Rattle.run_record.specs.Pieces.{rounds}
@@ -55,25 +55,6 @@ recorded_past es whole part s =
     recorded-append (things_in (take whole es)) (replicate part one_step) s
     ∙ ap (λ (l : List RunEvent). l ++ recorded (played (things_in (take whole es)) s) (replicate part one_step)) (recorded-things_in (take whole es) s)
     ∙ ap (λ (l : List RunEvent). recorded s (take whole es) ++ l) (recorded-steps part (played (things_in (take whole es)) s))
-
-rounds-last : (n : ℕ) → rounds (suc n) ≡ rounds n ++ event.Step ∷ event.Tick ∷ []
-rounds-last zero = refl
-rounds-last (suc n) = ap (λ (l : List RunEvent). event.Step ∷ event.Tick ∷ l) (rounds-last n)
-
--- so many rounds, and one more
-pub rounds_more : (n : ℕ) → rounds (n + 1) ≡ rounds n ++ event.Step ∷ event.Tick ∷ []
-rounds_more n = ap rounds (let e : n + 1 ≡ suc n = omega arith in e) ∙ rounds-last n
-
--- a step and a tick more
-pub round_added : (old before stepped after : List RunEvent) (i : ℕ) → before ≡ old ++ rounds i → stepped ≡ before ++ event.Step ∷ []
-    → after ≡ stepped ++ event.Tick ∷ [] → after ≡ old ++ rounds (i + 1)
-round_added old before stepped after i b s t =
-    t
-    ∙ ap (λ (l : List RunEvent). l ++ event.Tick ∷ []) s
-    ∙ append_assoc before (event.Step ∷ []) (event.Tick ∷ [])
-    ∙ ap (λ (l : List RunEvent). l ++ event.Step ∷ event.Tick ∷ []) b
-    ∙ append_assoc old (rounds i) (event.Step ∷ event.Tick ∷ [])
-    ∙ ap (λ (l : List RunEvent). old ++ l) (sym (rounds_more i))
 
 -- the events of the whole entries, and then those of the steps behind them, were added
 pub past_added : (es front : List Entry) (whole part : ℕ) (s m : S) (old all after : List RunEvent) → m ≡ s → front ≡ take whole es

@@ -1,7 +1,7 @@
 //! What has happened to a machine as a script of `lockmon run`.
 ghost use Rattle.std.specs.Prelude.{◌≡◌, ◌++◌, true, false, replicate, IfOk, OnOk};
 ghost use Rattle.std.specs.List.{list_all};
-ghost use Rattle.run_record.specs.Pieces.{events_in, rounds};
+ghost use Rattle.run_record.specs.Pieces.{events_in};
 ghost use Rattle.run_record.specs.declared.happened.RunEvent.TheVariants.{Tick};
 ghost use Rattle.ddt_timeline.specs.Recorded.{AddsScript, changes, events_of, has_changed, is_event, recorded};
 ghost use Rattle.ddt_timeline.specs.Timelines.{made};
@@ -44,17 +44,6 @@ fn has_changed(answer: &Answer) -> bool
     }
 }
 
-/// Adds so many steps, each followed by a tick.
-fn add_rounds(events: &mut EventSequence, count: u32) -> Result<(), AllocError>
-    ensures { OnOk result (events_in events.new ≡ events_in events.old ++ rounds count) }
-{
-    for i in 0..count {
-        events.add(RunEvent::Step)?;
-        events.add(RunEvent::Tick)?;
-    }
-    Ok(())
-}
-
 /// Adds so many ticks.
 fn add_ticks(events: &mut EventSequence, count: u32) -> Result<(), AllocError>
     ensures { OnOk result (events_in events.new ≡ events_in events.old ++ replicate count Tick) }
@@ -70,7 +59,7 @@ fn add_entry(events: &mut EventSequence, entry: &Entry) -> Result<(), AllocError
     ensures { OnOk result (events_in events.new ≡ events_in events.old ++ events_of entry.now) }
 {
     let event = match entry {
-        Entry::Rounds(count) => return add_rounds(events, *count),
+        Entry::Rounds(count) => return events.add_rounds(*count),
         Entry::Ticks(count) => return add_ticks(events, *count),
         Entry::Deposit(_, _, _) | Entry::StartAt(_, _) => return Ok(()),
         Entry::Login(line, _) => RunEvent::Login(*line, line.saturating_add(1)),
@@ -122,7 +111,7 @@ fn add_past(timeline: &Timeline, events: &mut EventSequence) -> Result<(), Alloc
     let added = add_all(&mut machine, timeline.entries(), events);
     let_go(machine);
     added?;
-    add_rounds(events, timeline.part())?;
+    events.add_rounds(timeline.part())?;
     Ok(())
 }
 

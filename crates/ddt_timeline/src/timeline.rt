@@ -188,14 +188,19 @@ impl Timeline {
         Ok(())
     }
 
-    /// Forgets what happened before the machine was put back.
-    fn cut(&mut self) -> Result<(), AllocError>
+    /// Forgets what happened before the machine was put back, and leaves room for `more` steps behind the last entry: where there
+    /// would be too many, those that were made there become an entry.
+    fn cut(&mut self, more: u32) -> Result<(), AllocError>
         ensures kept { history self.new ≡ cut (history self.old) }
         ensures machine { self.new.machine ≡ self.old.machine }
-        ensures last { OnOk result ((self.new.whole ≡ length self.new.entries.items) × (self.new.part ≡ 0)) }
+        ensures last { OnOk result (self.new.whole ≡ length self.new.entries.items) }
+        ensures room { OnOk result (self.new.part + more ≤ u32.MAX) }
     {
         self.entries.truncate(self.whole);
-        self.settle()
+        if self.part > u32::MAX - more {
+            self.settle()?;
+        }
+        Ok(())
     }
 
     /// Makes an entry happen, and forgets what happened before the machine was put back. Where memory is short it does not
@@ -205,7 +210,7 @@ impl Timeline {
         ensures answer { IfOk result (λ answer. answer ≡ answer_to (machine_of (history self.old)) entry) }
         ensures fails { OnErr result (history self.new ≡ cut (history self.old)) }
     {
-        self.cut()?;
+        self.cut(u32::MAX)?;
         self.entries.push(entry)?;
         let answer = perform(&mut self.machine, &self.entries[self.whole]);
         self.whole += 1;
@@ -229,9 +234,9 @@ impl Timeline {
             → IsAsked W.Asks (machine_of (history self.old)) watch.old watch.new ran) }
         ensures fails { OnErr result (history self.new ≡ cut (history self.old)) }
     {
-        self.cut()?;
+        self.cut(most)?;
         let ran = run_until(&mut self.machine, stops, addresses, most, watch);
-        self.part = ran.made;
+        self.part += ran.made;
         Ok(ran)
     }
 

@@ -2,7 +2,7 @@
 
 ghost use Rattle.std.specs.Prelude.{◌≡◌};
 
-use ka_cpu::JobMemory;
+use ka_cpu::{JobMemory, ReadMemory};
 use word36::Word;
 
 /// A lent slice as the core of a job.
@@ -20,10 +20,8 @@ impl<'a> SliceCore<'a> {
     }
 }
 
-impl<'a> JobMemory for SliceCore<'a> {
+impl<'a> ReadMemory for SliceCore<'a> {
     ghost words = { λ s. s.words.now };
-
-    ghost place = { λ s. s.words.ghost_name };
 
     fn size(&self) -> usize {
         self.words.len()
@@ -32,6 +30,10 @@ impl<'a> JobMemory for SliceCore<'a> {
     fn read(&self, a: u32) -> Option<Word> {
         self.words.get(a as usize).copied()
     }
+}
+
+impl<'a> JobMemory for SliceCore<'a> {
+    ghost place = { λ s. s.words.ghost_name };
 
     fn write(&mut self, a: u32, word: Word) -> bool {
         let inside = (a as usize) < self.words.len();

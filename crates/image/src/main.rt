@@ -9,7 +9,7 @@ mod kept_output;
 mod reasons;
 mod serving;
 
-use arguments::read_arguments;
+use arguments::{ImageCommand, read_arguments};
 use image_service::Ending;
 use program_shell::{
     DONE, FAILED, FailureLines, REFUSED, arguments_or_status, refuse_arguments, report_failure,
@@ -17,7 +17,7 @@ use program_shell::{
 };
 use reasons::reason_of;
 use script_io::{ByteOut, HostOut};
-use serving::{Stop, carry_out};
+use serving::{Carried, Stop, carry_out};
 use std::alloc::Global;
 use std::process::ExitCode;
 
@@ -29,12 +29,17 @@ const FAILURE_LINES: FailureLines = FailureLines {
 };
 
 /// Reports how a command ended, and gives the exit status.
-fn status_of<E: ByteOut>(alloc: Global, ended: Result<Ending, Stop>, errors: &mut E) -> u8
+fn status_of<E: ByteOut>(
+    alloc: Global,
+    command: ImageCommand,
+    ended: Result<Carried, Stop>,
+    errors: &mut E,
+) -> u8
     requires { E.has_failed errors.old ≡ false }
 {
     match ended {
-        Ok(Ending::Done) => DONE,
-        Ok(ending) => match reason_of(alloc, ending) {
+        Ok(carried) if carried.ending == Ending::Done => DONE,
+        Ok(carried) => match reason_of(alloc, command, &carried) {
             Ok(text) => report_to(errors, text.as_slice(), REFUSED),
             Err(_) => REFUSED,
         },
@@ -51,7 +56,12 @@ fn main(rt: HostRuntime) -> ExitCode {
         Err(status) => return ExitCode::from(status),
     };
     let status = match read_arguments(alloc, arguments.as_slice()) {
-        Ok(options) => status_of(alloc, carry_out(&rt, &options), &mut errors),
+        Ok(options) => status_of(
+            alloc,
+            options.command,
+            carry_out(&rt, &options),
+            &mut errors,
+        ),
         Err(refusal) => {
             let mut writer = HostOut::new(rt.stdout());
             refuse_arguments(alloc, refusal, &FAILURE_LINES, &mut writer, &mut errors)

@@ -1,11 +1,11 @@
 //! Commands that are carried out, on a file or standard input, to a file or standard output.
-ghost use Rattle.std.specs.Prelude.{◌≡◌, ◌≤◌, ◌^◌, false};
+ghost use Rattle.std.specs.Prelude.{◌≡◌, false};
 
 use crate::arguments::{ImageCommand, Options};
 use crate::kept_output::KeptOutput;
 use image_service::{Ending, serve_list, serve_save, serve_source, serve_words};
-use program_shell::{Failure, file_error_text, write_whole};
-use script_io::{ByteIn, ByteOut, HostIn, HostOut, ServeFailure, write_all};
+use program_shell::{Failure, file_error_text, read_whole, write_whole};
+use script_io::{ByteOut, HostIn, HostOut, ServeFailure, write_all};
 use std::alloc::{AllocError, Global};
 use std::{fs, io};
 
@@ -32,17 +32,26 @@ fn stop_at(alloc: Global, file: &str, error: io::Error) -> Stop {
     }
 }
 
-/// Carries a command out, and keeps what comes of it.
-fn serve<R: ByteIn>(
+/// How a command ended, and the bytes that it read.
+#[derive(Drop)]
+pub struct Carried {
+    /// How it ended.
+    pub ending: Ending,
+    /// What it read.
+    pub input: Vec<u8>,
+}
+
+/// Carries a command out on the bytes of its input, and keeps what comes of it.
+fn serve(
     alloc: Global,
     command: ImageCommand,
-    reader: &mut R,
+    input: &[u8],
     kept: &mut KeptOutput,
 ) -> Result<Ending, Stop>
-    requires reader_sound { R.has_failed reader.old ≡ false }
-    requires kept_sound { ⟦<KeptOutput as ByteOut>⟧.has_failed kept.old ≡ false }
-    requires few { R.reads_left reader.old ≤ 2 ^ 63 }
+    requires { ⟦<KeptOutput as ByteOut>⟧.has_failed kept.old ≡ false }
 {
+    let mut port = HostIn::new(input);
+    let reader = &mut port;
     let served = match command {
         ImageCommand::Words { from, to } => serve_words(alloc, from, to, reader, kept),
         ImageCommand::Source { from, shown } => serve_source(alloc, from, shown, reader, kept),
@@ -57,21 +66,17 @@ fn serve<R: ByteIn>(
     }
 }
 
-/// Carries a command out on the file that is named, or on standard input, and keeps what comes of it.
-fn serve_input(
-    rt: &HostRuntime,
-    options: &Options<'_>,
-    kept: &mut KeptOutput,
-) -> Result<Ending, Stop>
-    requires { ⟦<KeptOutput as ByteOut>⟧.has_failed kept.old ≡ false }
-{
-    let alloc = rt.alloc();
+/// The bytes of the file that is named, or of standard input.
+fn input_of(rt: &HostRuntime, options: &Options<'_>) -> Result<Vec<u8>, Stop> {
     let Some(file) = options.input else {
-        return serve(alloc, options.command, &mut HostIn::new(rt.stdin()), kept);
+        return match read_whole(rt.alloc(), &mut HostIn::new(rt.stdin()), usize::MAX) {
+            Ok(bytes) => Ok(bytes),
+            Err(failure) => Err(Stop::Failed(failure)),
+        };
     };
-    match fs::open(rt, file) {
-        Ok(opened) => serve(alloc, options.command, &mut HostIn::new(opened), kept),
-        Err(error) => Err(stop_at(alloc, file, error)),
+    match fs::read(rt, file) {
+        Ok(bytes) => Ok(bytes),
+        Err(error) => Err(stop_at(rt.alloc(), file, error)),
     }
 }
 
@@ -91,13 +96,14 @@ fn write_kept(rt: &HostRuntime, output: Option<&str>, kept: &[u8]) -> Result<(),
 
 /// Carries a command out, and writes what comes of it once all of that is there. What is said of an input that is refused goes
 /// to standard output, so that the file of `--output` stays as it is.
-pub fn carry_out(rt: &HostRuntime, options: &Options<'_>) -> Result<Ending, Stop> {
+pub fn carry_out(rt: &HostRuntime, options: &Options<'_>) -> Result<Carried, Stop> {
+    let input = input_of(rt, options)?;
     let mut kept = KeptOutput::new(rt.alloc());
-    let ending = serve_input(rt, options, &mut kept)?;
+    let ending = serve(rt.alloc(), options.command, input.as_slice(), &mut kept)?;
     let output = match ending {
         Ending::Done => options.output,
         _ => None,
     };
     write_kept(rt, output, kept.as_slice())?;
-    Ok(ending)
+    Ok(Carried { ending, input })
 }

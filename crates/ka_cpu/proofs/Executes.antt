@@ -67,6 +67,17 @@ behind_turn i ac core w e v b x h p = rw (turned_at i ac core w e b x h) (rw p r
 
 pub ruleset xct_steps = (behind_plain, behind_end, behind_refused, behind_illegal, behind_turn)
 
+-- the word that an XCT executes, by its address
+pub first_turn : (ac core : List ℕ) (w e : ℕ) → is_xct w ≡ true → Ok e ≡ address_in (target_of ac core w)
+    → word_behind MOST_EXECUTES ac core w ≡ reading (word_at ac core e) (λ v. word_behind (MOST_EXECUTES - 1) ac core v)
+first_turn ac core w e x h = let b : 0 < MOST_EXECUTES = omega arith in turned_at 0 ac core w e b x h
+
+pub first_refused : (ac core : List ℕ) (w : ℕ) (r : StopReason) → is_xct w ≡ true → Err r ≡ address_in (target_of ac core w)
+    → word_behind MOST_EXECUTES ac core w ≡ Err r
+first_refused ac core w r x h = let b : 0 < MOST_EXECUTES = omega arith in behind_refused 0 ac core w r b x h
+
+pub ruleset executed_words = (behind_plain, first_turn, first_refused)
+
 -- an instruction by the address of its word
 refused_by : (t : Result Target StopReason) (g : Regs) (core : List ℕ) (w : ℕ) (r : StopReason) → Err r ≡ address_in t
     → at_address g core w t ≡ stopped g core r
@@ -115,7 +126,7 @@ unlisted_xct w h = unlisted_execute (family_of (op_of w)) (ac_field w) h
 plain_performed : (k : ℕ) (g : Regs) (core : List ℕ) (w : ℕ) → is_xct w ≡ false → word_performed g core (word_behind k g.ac core w) ≡ performed g core w
 plain_performed k g core w h = ap (λ (x : Result ℕ StopReason). word_performed g core x) (behind_plain k g.ac core w h)
 
-performed_by : (b : Bool) (g : Regs) (core : List ℕ) (w : ℕ) → is_listed (family_of (op_of w)) (ac_field w) ≡ b
+pub performed_by : (b : Bool) (g : Regs) (core : List ℕ) (w : ℕ) → is_listed (family_of (op_of w)) (ac_field w) ≡ b
     → performed g core w ≡ (if b then at_address g core w (target_of g.ac core w) else stopped g core IllegalInstruction)
 unfolding performed
 performed_by b g core w h = rw h refl

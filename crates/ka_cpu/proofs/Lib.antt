@@ -2,6 +2,7 @@ pub mod Legal
 pub mod LegalLemmas
 pub mod ExecLaws
 pub mod Executes
+pub mod Calls
 pub mod BlockLegal
 pub mod BlockSteps
 pub mod ByteAddresses

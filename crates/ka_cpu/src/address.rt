@@ -3,7 +3,7 @@
 ghost use Rattle.std.specs.Prelude.{◌≡◌, ◌^◌, nat_eq, ◌/◌, ◌%◌};
 ghost use Rattle.ka_cpu.specs.Addresses.{address_in, pair_in, direct_address, is_indirect, target_of, used_after, used_in};
 
-use crate::{JobMemory, MOST_LINKS, Regs, StopReason, fetch};
+use crate::{MOST_LINKS, ReadMemory, Regs, StopReason, fetch};
 use word36::{Address, Word};
 
 /// Y, plus the right half of the index register where there is one.
@@ -52,7 +52,7 @@ fn is_plain(word: Word) -> bool
 #[cold]
 #[inline(never)]
 #[tactic(auto, using(crate::proofs::Chain::chain_steps))]
-fn follow_chain<M: JobMemory>(
+fn follow_chain<M: ReadMemory>(
     regs: &Regs,
     memory: &M,
     word: Word,
@@ -84,7 +84,7 @@ fn follow_chain<M: JobMemory>(
 /// The address to which an indirect word leads.
 #[inline(always)]
 #[tactic(auto, using(crate::proofs::Chain::chain_parts))]
-fn find_by_chain<M: JobMemory>(regs: &Regs, memory: &M, word: Word) -> Result<Address, StopReason>
+fn find_by_chain<M: ReadMemory>(regs: &Regs, memory: &M, word: Word) -> Result<Address, StopReason>
     ensures { result ≡ address_in (target_of regs.now.ac (M.words memory.now) word) }
 {
     match follow_chain(regs, memory, word) {
@@ -96,7 +96,7 @@ fn find_by_chain<M: JobMemory>(regs: &Regs, memory: &M, word: Word) -> Result<Ad
 /// The address of an instruction or of a byte pointer. Most words have neither I nor X.
 #[inline(always)]
 #[tactic(auto, using(crate::proofs::Chain::chain_parts))]
-pub fn find_address<M: JobMemory>(
+pub fn find_address<M: ReadMemory>(
     regs: &Regs,
     memory: &M,
     word: Word,
@@ -114,7 +114,7 @@ pub fn find_address<M: JobMemory>(
 
 /// The index register or indirect word that was used last to find the address of an instruction.
 #[tactic(auto, using(crate::proofs::Chain::chain_parts))]
-pub fn find_used<M: JobMemory>(regs: &Regs, memory: &M, word: Word) -> Option<Word>
+pub fn find_used<M: ReadMemory>(regs: &Regs, memory: &M, word: Word) -> Option<Word>
     ensures { result ≡ used_in (target_of regs.now.ac (M.words memory.now) word) }
 {
     match follow_chain(regs, memory, word) {

@@ -3,7 +3,7 @@
 ghost use Rattle.std.specs.Prelude.{◌≡◌, ◌+◌, ◌≤◌, length};
 ghost use Rattle.ka_cpu.specs.Blocks.{copied};
 
-use crate::JobMemory;
+use crate::{JobMemory, ReadMemory};
 use word36::Word;
 
 /// Copies `count` words of a slice from one position to another, one after the other: later reads see
@@ -27,10 +27,8 @@ pub struct CoreWords<'a> {
     pub words: &'a mut [Word],
 }
 
-impl<'a> JobMemory for CoreWords<'a> {
+impl<'a> ReadMemory for CoreWords<'a> {
     ghost words = { λ s. s.words.now };
-
-    ghost place = { λ s. s.words.ghost_name };
 
     #[inline(always)]
     fn size(&self) -> usize {
@@ -47,17 +45,21 @@ impl<'a> JobMemory for CoreWords<'a> {
     }
 
     #[inline(always)]
+    fn get(&self, a: u32) -> Word {
+        self.words[a as usize]
+    }
+}
+
+impl<'a> JobMemory for CoreWords<'a> {
+    ghost place = { λ s. s.words.ghost_name };
+
+    #[inline(always)]
     fn write(&mut self, a: u32, word: Word) -> bool {
         let inside = (a as usize) < self.words.len();
         if inside {
             self.words[a as usize] = word;
         }
         inside
-    }
-
-    #[inline(always)]
-    fn get(&self, a: u32) -> Word {
-        self.words[a as usize]
     }
 
     #[inline(always)]

@@ -6,7 +6,7 @@ ghost use Rattle.ka_cpu.specs.Effects.{moved_operand, computed_operand, to_memor
 ghost use Rattle.ka_cpu.specs.Effects.{memory_legal, ac_memory, core_memory, ac_put, carried_flags};
 
 use crate::memory::{is_in_core, store, try_store};
-use crate::{JobMemory, Outcome, Regs, StopReason, fetch};
+use crate::{JobMemory, Outcome, ReadMemory, Regs, StopReason, fetch};
 use std::marker::Model;
 use word36::{Address, Word};
 
@@ -112,7 +112,7 @@ pub fn operand_to_compute<M: JobMemory>(
 
 /// Whether an address is legal.
 #[inline(always)]
-pub fn is_legal_address<M: JobMemory>(memory: &M, a: u32) -> bool
+pub fn is_legal_address<M: ReadMemory>(memory: &M, a: u32) -> bool
     ensures { result ≡ is_legal (M.words memory.now) a }
 {
     is_in_core(memory, a) || a < 16

@@ -4,7 +4,7 @@
 ghost use Rattle.std.specs.Prelude.{◌≡◌};
 ghost use Rattle.ka_cpu.specs.Memory.{word_at, word_below, is_legal, are_legal};
 
-use crate::{JobMemory, Regs, fetch};
+use crate::{JobMemory, ReadMemory, Regs, fetch};
 use word36::{ADDRESSES, Word};
 
 /// The word at an address, if it is legal: registers lie at the addresses below 20 octal.
@@ -38,7 +38,7 @@ pub fn is_legal_kept<M: JobMemory>(memory: &mut M, a: u32) -> bool
 /// Whether `count` words from an address on are legal; behind 777777 octal there is no address. The legal
 /// addresses are those below a limit, so the last word decides.
 #[tactic(auto, using(crate::proofs::LegalLemmas::legal_addresses))]
-pub fn are_legal<M: JobMemory>(memory: &M, a: u32, count: u32) -> bool
+pub fn are_legal<M: ReadMemory>(memory: &M, a: u32, count: u32) -> bool
     ensures { result ≡ are_legal (M.words memory.now) a count }
 {
     if count == 0 {

@@ -9,14 +9,10 @@ ghost use Rattle.ka_cpu.specs.Memory.{word_at, is_legal, ac_with, core_with};
 use crate::Regs;
 use word36::Word;
 
-/// The core of a job, seen as a list of words.
-pub trait JobMemory {
+/// The core of a job as it is read, seen as a list of words.
+pub trait ReadMemory {
     /// The words, from address 0 on.
     ghost words: { Self → List ℕ };
-
-    /// Which loan the words come from, where they are lent: it stays the same, so that the lender
-    /// gets back what was written. A memory that owns its words says 0.
-    ghost place: { Self → GName };
 
     /// The number of words.
     fn size(&self) -> usize
@@ -25,12 +21,6 @@ pub trait JobMemory {
     /// The word at an address of core. None from the size on.
     fn read(&self, a: u32) -> Option<Word>
         ensures { result ≡ slice_get (words self.now) a };
-
-    /// Stores a word at an address of core. From the size on it stores nothing and answers false.
-    fn write(&mut self, a: u32, word: Word) -> bool
-        ensures stored { words self.new ≡ slice_set (words self.old) a word }
-        ensures answer { result ≡ nat_lt a (length (words self.old)) }
-        ensures place { place self.new ≡ place self.old };
 
     /// The word at an address of core below the size.
     #[inline(always)]
@@ -43,12 +33,25 @@ pub trait JobMemory {
             None => unreachable!(),
         }
     }
+}
+
+/// The core of a job.
+pub trait JobMemory: ReadMemory {
+    /// Which loan the words come from, where they are lent: it stays the same, so that the lender
+    /// gets back what was written. A memory that owns its words says 0.
+    ghost place: { Self → GName };
+
+    /// Stores a word at an address of core. From the size on it stores nothing and answers false.
+    fn write(&mut self, a: u32, word: Word) -> bool
+        ensures stored { Self.words self.new ≡ slice_set (Self.words self.old) a word }
+        ensures answer { result ≡ nat_lt a (length (Self.words self.old)) }
+        ensures place { place self.new ≡ place self.old };
 
     /// Stores a word at an address of core below the size.
     #[inline(always)]
     fn put(&mut self, a: u32, word: Word)
-        requires { a < length (words self.old) }
-        ensures stored { words self.new ≡ slice_set (words self.old) a word }
+        requires { a < length (Self.words self.old) }
+        ensures stored { Self.words self.new ≡ slice_set (Self.words self.old) a word }
         ensures place { place self.new ≡ place self.old }
     {
         self.write(a, word);
@@ -59,10 +62,10 @@ pub trait JobMemory {
     #[tactic(auto, using(crate::proofs::BlockSteps::copy_steps))]
     fn copy_words(&mut self, from: u32, to: u32, count: u32)
         requires few { count < 2 ^ 20 }
-        requires from { from + count ≤ length (words self.old) }
-        requires to { to + count ≤ length (words self.old) }
+        requires from { from + count ≤ length (Self.words self.old) }
+        requires to { to + count ≤ length (Self.words self.old) }
         requires addresses { (from < 2 ^ 18) × (to < 2 ^ 18) }
-        ensures copied { words self.new ≡ copied count (words self.old) from to }
+        ensures copied { Self.words self.new ≡ copied count (Self.words self.old) from to }
         ensures place { place self.new ≡ place self.old }
     {
         for i in 0..count {
@@ -76,7 +79,7 @@ pub trait JobMemory {
 /// Whether an address lies in core, behind the registers. One comparison says it: below 16 the subtraction
 /// wraps to a number that is larger than any size of core.
 #[inline(always)]
-pub fn is_in_core<M: JobMemory>(memory: &M, a: u32) -> bool
+pub fn is_in_core<M: ReadMemory>(memory: &M, a: u32) -> bool
     ensures { IsTrue result ↔ ((16 ≤ a) × (a < length (M.words memory.now))) }
 {
     (a as usize).wrapping_sub(16) < memory.size().saturating_sub(16)
@@ -85,7 +88,7 @@ pub fn is_in_core<M: JobMemory>(memory: &M, a: u32) -> bool
 /// The word at an address, if it is legal: registers lie at the addresses below 20 octal. A register's word is
 /// masked, so that the compiler does not read both by one instruction from an address that it has to choose.
 #[inline(always)]
-pub fn fetch<M: JobMemory>(regs: &Regs, memory: &M, a: u32) -> Option<Word>
+pub fn fetch<M: ReadMemory>(regs: &Regs, memory: &M, a: u32) -> Option<Word>
     ensures { result ≡ word_at regs.now.ac (M.words memory.now) a }
 {
     if is_in_core(memory, a) {
@@ -109,7 +112,7 @@ fn read_register(ac: &[Word; 16], a: u32) -> Word
 
 /// As `fetch`, for an address that is seldom that of a register.
 #[inline(always)]
-pub fn fetch_code<M: JobMemory>(regs: &Regs, memory: &M, a: u32) -> Option<Word>
+pub fn fetch_code<M: ReadMemory>(regs: &Regs, memory: &M, a: u32) -> Option<Word>
     ensures { result ≡ word_at regs.now.ac (M.words memory.now) a }
 {
     if is_in_core(memory, a) {

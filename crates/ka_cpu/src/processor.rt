@@ -12,12 +12,12 @@ use crate::address::find_address;
 use crate::dispatch::{HERE, LOOP, RUN, STEP, carry_out, refusal};
 use crate::instruction::{ILLEGAL, Instruction};
 use crate::memory::fetch_code;
-use crate::{CoreWords, JobMemory, MOST_EXECUTES, Outcome, Regs, StopReason, fetch};
+use crate::{CoreWords, JobMemory, MOST_EXECUTES, Outcome, ReadMemory, Regs, StopReason, fetch};
 use word36::{Address, Word};
 
 /// The operation of a word.
 #[inline(always)]
-fn operation(word: Word) -> u32
+pub(crate) fn operation(word: Word) -> u32
     ensures value { result ≡ op_of word }
     ensures below { result < 2 ^ 9 }
 {
@@ -26,7 +26,7 @@ fn operation(word: Word) -> u32
 
 /// The AC field of a word.
 #[inline(always)]
-fn accumulator_field(word: Word) -> usize
+pub(crate) fn accumulator_field(word: Word) -> usize
     ensures value { result ≡ ac_field word }
     ensures below { result < 16 }
 {
@@ -35,7 +35,7 @@ fn accumulator_field(word: Word) -> usize
 
 /// Whether a word is an XCT.
 #[tactic(auto, unfolding(crate::specs::Exec::is_xct))]
-fn is_execute_word(word: Word) -> bool
+pub(crate) fn is_execute_word(word: Word) -> bool
     ensures { result ≡ is_xct word }
 {
     operation(word) == 0o256
@@ -44,7 +44,11 @@ fn is_execute_word(word: Word) -> bool
 /// The word that an XCT with this E executes, over at most `MOST_EXECUTES` - 1 XCTs more. It is no XCT.
 #[inline(never)]
 #[tactic(auto, using(crate::proofs::Executes::xct_steps))]
-fn follow_executes<M: JobMemory>(regs: &Regs, memory: &M, e: Address) -> Result<Word, StopReason>
+pub(crate) fn follow_executes<M: ReadMemory>(
+    regs: &Regs,
+    memory: &M,
+    e: Address,
+) -> Result<Word, StopReason>
     ensures value { result
         ≡ reading (word_at regs.now.ac (M.words memory.now) e) (λ v. word_behind (MOST_EXECUTES - 1) regs.now.ac (M.words memory.now) v) }
     ensures plain { IfOk result (λ w. is_xct w ≡ false) }
@@ -73,7 +77,7 @@ fn follow_executes<M: JobMemory>(regs: &Regs, memory: &M, e: Address) -> Result<
 /// The word that an XCT with this E executes. It is inlined, so that its caller, which is inlined too,
 /// keeps no room for what the call of `follow_executes` returns.
 #[inline(always)]
-fn find_executed<M: JobMemory>(regs: &Regs, memory: &M, e: Address) -> Result<Word, StopReason>
+fn find_executed<M: ReadMemory>(regs: &Regs, memory: &M, e: Address) -> Result<Word, StopReason>
     ensures value { result
         ≡ reading (word_at regs.now.ac (M.words memory.now) e) (λ v. word_behind (MOST_EXECUTES - 1) regs.now.ac (M.words memory.now) v) }
     ensures plain { IfOk result (λ w. is_xct w ≡ false) }

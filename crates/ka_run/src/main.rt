@@ -11,14 +11,26 @@ mod report;
 
 use input::{Line, read_line};
 use ka_cpu::{Flags, Regs, run_steps};
+use program_shell::{
+    DONE, Failure, FailureLines, REFUSED, USAGE, arguments_or_status, read_input, report_failure,
+    report_to,
+};
+use script_io::{HostIn, HostOut, Parts};
 use std::process::ExitCode;
-use std::{env, io};
+use std::str;
 use word36::{Address, BLOCK_WORDS, MOST_BLOCKS, Word};
 
 /// What is written where the arguments are wrong.
-const USAGE: &str =
-    "usage: ka_run N < words    runs at most N instructions (decimal); the words as \
-    `lockmon asm` writes them";
+const USAGE_LINE: &[u8] =
+    b"usage: ka_run N < words    runs at most N instructions (decimal); the words as \
+    `lockmon asm` writes them\n";
+
+/// The lines by which the program reports a failure.
+const FAILURE_LINES: FailureLines = FailureLines {
+    read: b"ka_run: read\n",
+    write: b"ka_run: write\n",
+    memory: b"ka_run: memory\n",
+};
 
 /// What the input has said so far: the number of blocks of core, whether a word has come, and whether
 /// `START` has.
@@ -74,13 +86,45 @@ fn limit_of(arguments: &[String]) -> Option<u64> {
     }
 }
 
-fn main(rt: HostRuntime) -> io::Result<ExitCode> {
-    let arguments: Vec<String> = env::args(&rt)?.collect(rt.alloc())?;
-    let Some(most) = limit_of(arguments.as_slice()) else {
-        eprintln!(rt; "{USAGE}")?;
-        return Ok(ExitCode::from(2));
+/// Takes a line of bytes, and says whether it is right.
+fn take_bytes(progress: &mut Progress, regs: &mut Regs, core: &mut [Word], bytes: &[u8]) -> bool {
+    match str::from_utf8(bytes) {
+        Ok(text) => match read_line(text) {
+            Some(line) => take(progress, regs, core, line),
+            None => false,
+        },
+        Err(_) => false,
+    }
+}
+
+/// The number of the first line of the input that is not right, if one is; all before it are taken.
+fn take_all(
+    progress: &mut Progress,
+    regs: &mut Regs,
+    core: &mut [Word],
+    input: &[u8],
+) -> Option<u64> {
+    let mut lines = Parts::of(input, b'\n');
+    let mut number = 0u64;
+    for _ in 0..=input.len() {
+        let Some(line) = lines.next() else {
+            break;
+        };
+        number = number.saturating_add(1);
+        if !take_bytes(progress, regs, core, line) {
+            return Some(number);
+        }
+    }
+    None
+}
+
+/// Runs the words of an input, and writes what is left; gives the exit status.
+fn run(rt: &HostRuntime, input: &[u8], most: u64) -> Result<u8, Failure> {
+    let size = MOST_BLOCKS as usize * BLOCK_WORDS;
+    let mut core = match vec![in rt.alloc(); Word::new(0); size] {
+        Ok(core) => core,
+        Err(_) => return Err(Failure::Memory),
     };
-    let mut core = vec![in rt.alloc(); Word::new(0); MOST_BLOCKS as usize * BLOCK_WORDS]?;
     let mut progress = Progress {
         blocks: MOST_BLOCKS,
         words_begun: false,
@@ -96,20 +140,45 @@ fn main(rt: HostRuntime) -> io::Result<ExitCode> {
             no_divide: false,
         },
     };
-    let mut number = 0u64;
-    for line in rt.lines(rt.alloc()) {
-        number = number.saturating_add(1);
-        let right = match read_line(line?.as_str()) {
-            Some(line) => take(&mut progress, &mut regs, core.as_mut_slice(), line),
-            None => false,
-        };
-        if !right {
-            println!(rt; "?INPUT {number}")?;
-            return Ok(ExitCode::from(1));
+    let wrong = take_all(&mut progress, &mut regs, core.as_mut_slice(), input);
+    let written = match wrong {
+        Some(number) => println!(rt; "?INPUT {number}"),
+        None => {
+            core.truncate(progress.blocks as usize * BLOCK_WORDS);
+            let (steps, ended) = run_steps(&mut regs, core.as_mut_slice(), most);
+            report::write(rt, steps, ended, &regs, core.as_slice())
         }
+    };
+    match written {
+        Ok(()) if wrong.is_some() => Ok(REFUSED),
+        Ok(()) => Ok(DONE),
+        Err(_) => Err(Failure::Write),
     }
-    core.truncate(progress.blocks as usize * BLOCK_WORDS);
-    let (steps, ended) = run_steps(&mut regs, core.as_mut_slice(), most);
-    report::write(&rt, steps, ended, &regs, core.as_slice())?;
-    Ok(ExitCode::SUCCESS)
+}
+
+fn main(rt: HostRuntime) -> ExitCode {
+    let mut errors = HostOut::new(rt.stderr());
+    let arguments = match arguments_or_status(&rt, FAILURE_LINES.memory, &mut errors) {
+        Ok(arguments) => arguments,
+        Err(status) => return ExitCode::from(status),
+    };
+    let Some(most) = limit_of(arguments.as_slice()) else {
+        return ExitCode::from(report_to(&mut errors, USAGE_LINE, USAGE));
+    };
+    let mut reader = HostIn::new(rt.stdin());
+    let read = read_input(
+        rt.alloc(),
+        &mut reader,
+        usize::MAX,
+        &FAILURE_LINES,
+        &mut errors,
+    );
+    let status = match read {
+        Ok(input) => match run(&rt, input.as_slice(), most) {
+            Ok(status) => status,
+            Err(failure) => report_failure(&mut errors, &FAILURE_LINES, failure),
+        },
+        Err(status) => status,
+    };
+    ExitCode::from(status)
 }

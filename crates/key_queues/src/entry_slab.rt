@@ -101,13 +101,14 @@ impl<const REQS: usize> EntrySlab<REQS> {
     }
 
     /// Removes the entry of a slot; its box becomes a spare one.
+    #[inline(always)]
     pub fn remove(&mut self, p: u16)
         requires { is_filled self.old.contents p ≡ true }
         ensures contents { self.new.contents ≡ with_content self.old.contents p None }
         ensures len { self.new.len + 1 ≡ self.old.len }
     {
         let entry = self.slab.remove(p as usize);
-        let _ = self.spare.push(entry);
+        self.spare.push_reserved(entry);
     }
 
     /// Lends the entry in a slot, to be changed. The other slots stay as they are.

@@ -38,11 +38,15 @@ fn is_among(list: &[u16], p: u16) -> bool
     any
 }
 
-/// The position of a slot in a list, in which it is.
+/// The position of a slot in a list, in which it is. The first is looked at before the others: who came first owns its
+/// locks, and so leaves first.
 fn index_of(list: &[u16], p: u16) -> usize
     requires { position_or_len (λ x. x == p) list.now < length list.now }
     ensures { result ≡ position_or_len (λ x. x == p) list.now }
 {
+    if list[0] == p {
+        return 0;
+    }
     let mut i = 0;
     while list.len() - i >= TOGETHER && !is_among(&list[i..i + TOGETHER], p) {
         i += TOGETHER;
@@ -75,10 +79,11 @@ impl<const REQS: usize> SlotList<REQS> {
         requires { length self.old < REQS }
         ensures { self.new ≡ self.old ++ p ∷ [] }
     {
-        let _ = self.slots.push(p);
+        self.slots.push_reserved(p);
     }
 
-    /// Removes a slot, which is in the list once; those behind it move up. Mostly it is the last.
+    /// Removes a slot, which is in the list once; those behind it move up. The last is looked at before the others: of
+    /// most jobs it is the only one.
     pub fn take_out(&mut self, p: u16)
         requires there { position_or_len (λ x. x == p) self.old < length self.old }
         requires once { AreDistinct self.old }

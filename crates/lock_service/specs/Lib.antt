@@ -2,5 +2,6 @@ pub mod Effects
 pub mod Filled
 pub mod ReadBack
 pub mod Readings
+pub mod Runs
 pub mod Served
 pub mod Spelled

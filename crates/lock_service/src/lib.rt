@@ -6,9 +6,11 @@ mod filling;
 mod laws;
 mod locks;
 mod readings;
+mod runs;
 mod spelling;
 
 pub use codes::{BAD_JOB, BUSY, NO_MEMORY, NO_TABLE, OK, WAITS};
 pub use locks::Locks;
 pub use readings::{LockGrant, LockRequest, LockStatus};
+pub use runs::{Answer, ServiceCall, tables_agree};
 pub use spelling::LockTerms;

@@ -16,6 +16,7 @@ use key_queues::index_of;
 impl<const REQS: usize> Table<REQS> {
     /// The request of a slot, if there is one, gives up all of its wants, from the last to the first, and
     /// is removed.
+    #[inline(always)]
     pub fn leave(&mut self, p: u16)
         requires table { IsTable (state self.old) }
         ensures table { IsTable (state self.new) }

@@ -46,7 +46,9 @@ pub fn renew<const REQS: usize>(store: &mut Store<REQS>, keys: &Keys<REQS>, p: u
         return false;
     }
     let granted = keys.all_count(f.queues.as_slice(), p);
-    store.set_granted(p, granted);
+    if granted {
+        store.set_granted(p, true);
+    }
     granted
 }
 
@@ -156,6 +158,7 @@ impl<const REQS: usize> Table<REQS> {
 
     /// A request gives up its k-th want, and the wants that fit now are counted; where the queue is empty, the
     /// lock is freed. Each want that leaves does so by this.
+    #[inline(always)]
     pub fn depart(&mut self, p: u16, k: usize)
         requires table { IsTable (state self.old) }
         requires present { is_there p self.old.store.order ≡ true }

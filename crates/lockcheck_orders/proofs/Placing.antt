@@ -184,11 +184,11 @@ module _ (rs : List Request) (order : List ℕ) (q k place : ℕ) (r s : Request
 
 -- ---- the requests at some positions, each as it is kept
 
-map-twice : {X Y Z : Type 0} (f : Y → Z) (g : X → Y) (xs : List X) → map (λ x. f (g x)) xs ≡ map f (map g xs)
+pub map-twice : {X Y Z : Type 0} (f : Y → Z) (g : X → Y) (xs : List X) → map (λ x. f (g x)) xs ≡ map f (map g xs)
 map-twice f g [] = refl
 map-twice f g (x ∷ xs) = ap (λ l. f (g x) ∷ l) (map-twice f g xs)
 
-take-whole : {X : Type 0} (xs : List X) (n : ℕ) → length xs ≡ n → take n xs ≡ xs
+pub take-whole : {X : Type 0} (xs : List X) (n : ℕ) → length xs ≡ n → take n xs ≡ xs
 take-whole xs n e = ap (λ k. take k xs) (sym e) ∙ take-length xs
 
 pub packed-all : (lines : List Line) (rs : List Request) (order : List ℕ) (n : ℕ) (kept : List RequestForm) → length order ≡ n

@@ -3,7 +3,10 @@ pub mod Orders
 pub mod NormalOrders
 pub mod Placing
 pub mod Packing
-pub mod Keys
+pub mod Flags
+pub mod Same
+pub mod Tables
+pub mod Learning
 pub mod Origins
 pub mod Stuck
 pub mod Circles

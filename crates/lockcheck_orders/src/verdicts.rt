@@ -1,23 +1,17 @@
 //! What holds of all orders.
 ghost use Rattle.std.specs.Prelude.{◌≡◌, ℕ, ◌↔◌, IfOk, IsTrue, length};
 ghost use Rattle.std.specs.BTreeSet as bag;
-ghost use Rattle.std.specs.List.{All};
 ghost use Rattle.std.specs.Ordering.{nat_cmp};
-ghost use Rattle.state_search.specs.Searched.{IsWhole, seen_of};
 ghost use Rattle.lockcheck_orders.specs.Circles.{circle_jobs, has_circle};
-ghost use Rattle.lockcheck_orders.specs.Orders.{first_state};
-ghost use Rattle.lockcheck_orders.specs.NormalOrders.{next_normal};
-ghost use Rattle.lockcheck_orders.specs.Origins.{IsKept};
-ghost use Rattle.lockcheck_orders.specs.Packing.{unpacked};
-ghost use Rattle.lockcheck_orders.specs.Programs.{jobs_of};
 ghost use Rattle.lockcheck_orders.specs.Stuck.{is_stuck, waiting_jobs};
+ghost use Rattle.lockcheck_orders.specs.Tables.{HasEvery};
 ghost use Rattle.lockcheck_orders.specs.Verdicts.{AreAnswers, IsFollowed, IsGiven, IsLooked, IsReport, IsVerdict};
 
 use crate::answers::Answers;
 use crate::circles::{Circle, circle_jobs};
 use crate::desk::Desk;
 use crate::kept::KeptState;
-use crate::orders::set_state_out;
+use crate::orders::{Orders, set_state_out};
 use crate::programs::Programs;
 use crate::stuck::{Stuck, waiting_jobs};
 use state_search::{Kept, Outcome, Watch, all_labels, find_witness, search};
@@ -36,22 +30,24 @@ pub struct Verdict {
 /// A shortest order that leads to a circle of waits, with its members, if one does.
 pub fn find_circle(
     alloc: Global,
-    programs: &Programs,
+    orders: &Orders<'_>,
     kept: &Kept<KeptState>,
 ) -> Result<Option<Verdict>, AllocError>
-    requires whole { IsWhole (length (jobs_of programs.now)) (next_normal programs.now) (first_state programs.now)
-        (seen_of (unpacked programs.now) (first_state programs.now) kept.now.met.items) (length kept.now.met.items) }
-    requires sound { All (λ m. IsKept programs.now m.state) kept.now.met.items }
-    ensures { IfOk result (IsVerdict programs.now (has_circle programs.now) (circle_jobs programs.now)) }
+    requires { HasEvery orders.now.programs.now orders.now.tables kept.now.states.keys kept.now.origins.items }
+    ensures { IfOk result (IsVerdict orders.now.programs.now (has_circle orders.now.programs.now) (circle_jobs orders.now.programs.now)) }
 {
-    let found = find_witness(alloc, programs, kept, &Circle)?;
+    let found = find_witness(alloc, orders, kept, &Circle)?;
     let Some(witness) = found else {
         return Ok(None);
     };
     let mut desk = Desk::new(alloc)?;
-    let met = &kept.met[witness.position];
-    set_state_out(programs, &mut desk, &met.state);
-    let jobs = circle_jobs(alloc, programs, &desk)?;
+    set_state_out(
+        orders.programs,
+        &orders.tables,
+        &mut desk,
+        *kept.state(witness.position),
+    );
+    let jobs = circle_jobs(alloc, orders.programs, &desk)?;
     Ok(Some(Verdict {
         moves: witness.moves,
         jobs,
@@ -62,22 +58,24 @@ pub fn find_circle(
 /// is one.
 pub fn find_stuck(
     alloc: Global,
-    programs: &Programs,
+    orders: &Orders<'_>,
     kept: &Kept<KeptState>,
 ) -> Result<Option<Verdict>, AllocError>
-    requires whole { IsWhole (length (jobs_of programs.now)) (next_normal programs.now) (first_state programs.now)
-        (seen_of (unpacked programs.now) (first_state programs.now) kept.now.met.items) (length kept.now.met.items) }
-    requires sound { All (λ m. IsKept programs.now m.state) kept.now.met.items }
-    ensures { IfOk result (IsVerdict programs.now (is_stuck programs.now) (waiting_jobs programs.now)) }
+    requires { HasEvery orders.now.programs.now orders.now.tables kept.now.states.keys kept.now.origins.items }
+    ensures { IfOk result (IsVerdict orders.now.programs.now (is_stuck orders.now.programs.now) (waiting_jobs orders.now.programs.now)) }
 {
-    let found = find_witness(alloc, programs, kept, &Stuck)?;
+    let found = find_witness(alloc, orders, kept, &Stuck)?;
     let Some(witness) = found else {
         return Ok(None);
     };
     let mut desk = Desk::new(alloc)?;
-    let met = &kept.met[witness.position];
-    set_state_out(programs, &mut desk, &met.state);
-    let jobs = waiting_jobs(alloc, &desk, programs.jobs())?;
+    set_state_out(
+        orders.programs,
+        &orders.tables,
+        &mut desk,
+        *kept.state(witness.position),
+    );
+    let jobs = waiting_jobs(alloc, &desk, orders.programs.jobs())?;
     Ok(Some(Verdict {
         moves: witness.moves,
         jobs,
@@ -88,38 +86,34 @@ pub fn find_stuck(
 /// its answer.
 pub fn all_answers(
     alloc: Global,
-    programs: &Programs,
+    orders: &Orders<'_>,
     kept: &Kept<KeptState>,
 ) -> Result<BTreeSet<usize>, AllocError>
-    requires whole { IsWhole (length (jobs_of programs.now)) (next_normal programs.now) (first_state programs.now)
-        (seen_of (unpacked programs.now) (first_state programs.now) kept.now.met.items) (length kept.now.met.items) }
-    requires sound { All (λ m. IsKept programs.now m.state) kept.now.met.items }
-    ensures { IfOk result (λ all. (a : ℕ) → (IsTrue (bag.contains nat_cmp all a) ↔ IsGiven programs.now a)) }
+    requires { HasEvery orders.now.programs.now orders.now.tables kept.now.states.keys kept.now.origins.items }
+    ensures { IfOk result (λ all. (a : ℕ) → (IsTrue (bag.contains nat_cmp all a) ↔ IsGiven orders.now.programs.now a)) }
 {
-    let all = all_labels(alloc, programs, kept, &Answers)?;
+    let all = all_labels(alloc, orders, kept, &Answers)?;
     Ok(all)
 }
 
-/// The answers, where they are asked for.
+/// The answers, if they are asked for.
 fn answers_if(
     alloc: Global,
-    programs: &Programs,
+    orders: &Orders<'_>,
     kept: &Kept<KeptState>,
     wanted: bool,
 ) -> Result<Option<BTreeSet<usize>>, AllocError>
-    requires whole { IsWhole (length (jobs_of programs.now)) (next_normal programs.now) (first_state programs.now)
-        (seen_of (unpacked programs.now) (first_state programs.now) kept.now.met.items) (length kept.now.met.items) }
-    requires sound { All (λ m. IsKept programs.now m.state) kept.now.met.items }
-    ensures { IfOk result (AreAnswers programs.now wanted) }
+    requires { HasEvery orders.now.programs.now orders.now.tables kept.now.states.keys kept.now.origins.items }
+    ensures { IfOk result (AreAnswers orders.now.programs.now wanted) }
 {
     if !wanted {
         return Ok(None);
     }
-    let all = all_answers(alloc, programs, kept)?;
+    let all = all_answers(alloc, orders, kept)?;
     Ok(Some(all))
 }
 
-/// What is found where every state was looked at.
+/// The findings, if every state was looked at.
 #[derive(Drop)]
 pub struct Report {
     /// How many normal forms the states have.
@@ -128,7 +122,7 @@ pub struct Report {
     pub circle: Option<Verdict>,
     /// A shortest order that leaves jobs waiting.
     pub stuck: Option<Verdict>,
-    /// The answers that some order gives, where these were asked for: each is the number of a line, times
+    /// The answers that some order gives, if these were asked for: each is the number of a line, times
     /// `ANSWERS`, plus the number of its answer.
     pub answers: Option<BTreeSet<usize>>,
 }
@@ -145,21 +139,19 @@ pub enum Looked {
 /// Reports on all orders, from all their states.
 fn report_on(
     alloc: Global,
-    programs: &Programs,
+    orders: &Orders<'_>,
     kept: &Kept<KeptState>,
     with_answers: bool,
 ) -> Result<Report, AllocError>
-    requires whole { IsWhole (length (jobs_of programs.now)) (next_normal programs.now) (first_state programs.now)
-        (seen_of (unpacked programs.now) (first_state programs.now) kept.now.met.items) (length kept.now.met.items) }
-    requires sound { All (λ m. IsKept programs.now m.state) kept.now.met.items }
-    ensures report { IfOk result (IsReport programs.now with_answers) }
-    ensures states { IfOk result (λ r. r.states ≡ length kept.now.met.items) }
+    requires { HasEvery orders.now.programs.now orders.now.tables kept.now.states.keys kept.now.origins.items }
+    ensures report { IfOk result (IsReport orders.now.programs.now with_answers) }
+    ensures states { IfOk result (λ r. r.states ≡ length kept.now.states.keys) }
 {
-    let circle = find_circle(alloc, programs, kept)?;
-    let stuck = find_stuck(alloc, programs, kept)?;
-    let answers = answers_if(alloc, programs, kept, with_answers)?;
+    let circle = find_circle(alloc, orders, kept)?;
+    let stuck = find_stuck(alloc, orders, kept)?;
+    let answers = answers_if(alloc, orders, kept, with_answers)?;
     Ok(Report {
-        states: kept.met.len(),
+        states: kept.len(),
         circle,
         stuck,
         answers,
@@ -178,11 +170,12 @@ pub fn look<W: Watch>(
     ensures looked { IfOk result (IsLooked programs.now most with_answers) }
     ensures followed { IfOk result (IsFollowed programs.now W.Looks watch.old watch.new) }
 {
-    let outcome = search(alloc, programs, most, watch)?;
+    let mut orders = Orders::new(alloc, programs);
+    let outcome = search(alloc, &mut orders, most, watch)?;
     match outcome {
         Outcome::GaveUp(states) => Ok(Looked::GaveUp(states)),
         Outcome::All(kept) => {
-            let report = report_on(alloc, programs, &kept, with_answers)?;
+            let report = report_on(alloc, &orders, &kept, with_answers)?;
             Ok(Looked::All(report))
         }
     }

@@ -2,3 +2,4 @@ pub mod JobLemmas
 pub mod ReadingLemmas
 pub mod TextLemmas
 pub mod EndingLemmas
+pub mod ArgumentLemmas

@@ -65,3 +65,11 @@ five_pieces out x y z new a b c d e p q r s =
     added out (z ++ d) new (((a ++ b) ++ c) ++ d) e
     (added out z (z ++ d) ((a ++ b) ++ c) d (added out y z (a ++ b) c (added out x y a b p q) r) refl)
     (s ∙ sym (append_assoc z d e))
+
+-- six pieces are added
+pub six_pieces : (out x y z w v new a b c d e f : List ℕ) → x ≡ out ++ a → y ≡ x ++ b → z ≡ y ++ c → w ≡ z ++ d → v ≡ w ++ e → new ≡ v ++ f
+    → new ≡ out ++ (((((a ++ b) ++ c) ++ d) ++ e) ++ f)
+six_pieces out x y z w v new a b c d e f p q r s t u =
+    added out v new ((((a ++ b) ++ c) ++ d) ++ e) f
+    (added out w v (((a ++ b) ++ c) ++ d) e (added out z w ((a ++ b) ++ c) d (added out y z (a ++ b) c (added out x y a b p q) r) s) t)
+    u

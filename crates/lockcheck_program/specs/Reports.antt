@@ -18,7 +18,7 @@ use Rattle.program_shell.specs.declared.statuses.TheConstants.{DONE, FAILED}
 
 -- ---- lines of the script
 
--- the line of this number, counted from 1; an empty one where there are fewer
+-- the line of this number, counted from 1; an empty one if there are fewer
 abbrev pub line_in : List (List ℕ) → ℕ → List ℕ
 line_in [] number = []
 line_in (line ∷ more) number = if nat_le number 1 then line else line_in more (number - 1)
@@ -83,11 +83,15 @@ answers_text script programs (Some all) = flat_map (line_answers script all) pro
 
 -- ---- the whole
 
+-- a number of things, by the word for one of them
+abbrev pub counted : ℕ → List ℕ → List ℕ
+counted n word = decimal n ++ codes " " ++ word ++ (if n == 1 then [] else codes "s")
+
 -- how many jobs, calls and states there are
 abbrev pub counts_text : List Line → ℕ → List ℕ
 counts_text programs states =
-    decimal (length (jobs_of programs)) ++ codes " jobs, " ++ decimal (length programs) ++ codes " calls, " ++ decimal states
-    ++ codes " states, all looked at\n"
+    counted (length (jobs_of programs)) (codes "job") ++ codes ", " ++ counted (length programs) (codes "call") ++ codes ", "
+    ++ counted states (codes "state") ++ codes ", all looked at\n"
 
 -- the text of a report on the programs of a script of these lines
 abbrev pub report_text : List (List ℕ) → List Line → Report → List ℕ
@@ -100,7 +104,7 @@ report_text script programs r =
 -- the text of what was found
 abbrev pub looked_text : List (List ℕ) → List Line → Looked → List ℕ
 looked_text script programs (All r) = report_text script programs r
-looked_text script programs (GaveUp states) = codes "GAVE UP after " ++ decimal states ++ codes " states\n"
+looked_text script programs (GaveUp states) = codes "GAVE UP after " ++ counted states (codes "state") ++ codes "\n"
 
 -- the status for it: 4 where there is a circle, 5 where jobs are left waiting without one, 3 where it gave up
 abbrev pub report_status : Option Verdict → Option Verdict → ℕ

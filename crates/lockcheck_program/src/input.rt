@@ -23,7 +23,8 @@ fn read_input<R: ByteIn, E: ByteOut>(
     ensures script { IfOk result (λ script. IsScript false (R.to_come reader.old) (R.to_come reader.new) script.items) }
     ensures sound { IfOk result (λ _. E.has_failed errors.new ≡ false) }
     ensures quiet { IfOk result (λ _. E.written errors.new ≡ E.written errors.old) }
-    ensures unread { IfErr result (λ status. IsUnread (E.written errors.old) (E.written errors.new) (E.has_failed errors.new) status) }
+    ensures unread { IfErr result (λ status. IsUnread false (R.to_come reader.old) (R.to_come reader.new)
+        (E.written errors.old) (E.written errors.new) (E.has_failed errors.new) status) }
 {
     match read_whole(alloc, reader, MOST_BYTES) {
         Ok(script) => {
@@ -50,7 +51,8 @@ pub fn read_script<F: Files + AllocGlobal, R: ByteIn, E: ByteOut>(
     ensures script { IfOk result (λ script. IsScript (is_some file.now) (R.to_come reader.old) (R.to_come reader.new) script.items) }
     ensures sound { IfOk result (λ _. E.has_failed errors.new ≡ false) }
     ensures quiet { IfOk result (λ _. E.written errors.new ≡ E.written errors.old) }
-    ensures unread { IfErr result (λ status. IsUnread (E.written errors.old) (E.written errors.new) (E.has_failed errors.new) status) }
+    ensures unread { IfErr result (λ status. IsUnread (is_some file.now) (R.to_come reader.old) (R.to_come reader.new)
+        (E.written errors.old) (E.written errors.new) (E.has_failed errors.new) status) }
 {
     match file {
         Some(file) => read_file(rt, "lockcheck: ", file.as_str(), &FAILURE_LINES, errors),

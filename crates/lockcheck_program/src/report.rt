@@ -5,7 +5,7 @@ ghost use Rattle.std.specs.List.{flat_map};
 ghost use Rattle.std.specs.Str.Lines.{lines};
 ghost use Rattle.lockcheck_orders.specs.Programs.{jobs_of};
 ghost use Rattle.lockcheck_orders.specs.declared.lines.TheConstants.{MOST_LINES};
-ghost use Rattle.lockcheck_program.specs.Reports.{answer_word, answer_words, answered, answers_text, answers_to, counts_text};
+ghost use Rattle.lockcheck_program.specs.Reports.{answer_word, answer_words, answered, answers_text, answers_to, counted, counts_text};
 ghost use Rattle.lockcheck_program.specs.Reports.{jobs_text, line_in, line_made, order_text, report_text, verdict_text};
 
 use crate::script_lines::line_at;
@@ -15,7 +15,7 @@ use std::alloc::{AllocError, Global};
 use std::collections::BTreeSet;
 
 /// The line that the job at a position of the list makes next, where each job has made so many.
-fn line_made<'a>(programs: &'a Programs, made: &[u16], by: usize) -> Option<&'a Line>
+fn line_made<'a>(programs: &'a Programs, made: &[u32], by: usize) -> Option<&'a Line>
     requires { length made.now ≡ length (jobs_of programs.now) }
     ensures line { MatchOption result (line_made programs.now made.now by ≡ None)
         (λ l. line_made programs.now made.now by ≡ Some l.now) }
@@ -51,7 +51,7 @@ fn push_order(
     ensures { OnOk result (out.new.items ≡ out.old.items
         ++ order_text (lines script.now) programs.now (replicate (length (jobs_of programs.now)) 0) moves.now) }
 {
-    let mut made = Vec::from_elem(alloc, 0u16, programs.jobs().len())?;
+    let mut made = Vec::from_elem(alloc, 0u32, programs.jobs().len())?;
     for by in moves {
         let Some(line) = line_made(programs, made.as_slice(), *by) else {
             return Ok(());
@@ -190,17 +190,31 @@ fn push_answers(
     Ok(())
 }
 
-/// Adds how many jobs, calls and states there are.
+/// Adds a number of things, by the word for one of them.
 #[tactic(auto, using(std::proofs::Common::append_assoc))]
+pub fn push_counted(out: &mut Vec<u8>, count: usize, word: &[u8]) -> Result<(), AllocError>
+    ensures { OnOk result (out.new.items ≡ out.old.items ++ counted count word.now) }
+{
+    push_decimal(out, count)?;
+    out.extend_from_slice(b" ")?;
+    out.extend_from_slice(word)?;
+    if count == 1 {
+        return Ok(());
+    }
+    out.extend_from_slice(b"s")
+}
+
+/// Adds how many jobs, calls and states there are.
 fn push_counts(out: &mut Vec<u8>, programs: &Programs, states: usize) -> Result<(), AllocError>
     ensures { OnOk result (out.new.items ≡ out.old.items ++ counts_text programs.now states) }
 {
-    push_decimal(out, programs.jobs().len())?;
-    out.extend_from_slice(b" jobs, ")?;
-    push_decimal(out, programs.lines().len())?;
-    out.extend_from_slice(b" calls, ")?;
-    push_decimal(out, states)?;
-    out.extend_from_slice(b" states, all looked at\n")
+    push_counted(out, programs.jobs().len(), b"job")?;
+    out.extend_from_slice(b", ")?;
+    push_counted(out, programs.lines().len(), b"call")?;
+    out.extend_from_slice(b", ")?;
+    push_counted(out, states, b"state")?;
+    out.extend_from_slice(b", all looked at\n")?;
+    Ok(())
 }
 
 /// The text of a report on the programs of a script: how many jobs, calls and states there are, the circle, the jobs that are

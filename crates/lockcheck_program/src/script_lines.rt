@@ -5,7 +5,7 @@ ghost use Rattle.lockcheck_program.specs.Reports.{line_in};
 
 use lock_bars::ScriptLines;
 
-/// The line of this number, counted from 1, without its line end; an empty one where there are fewer.
+/// The line of this number, counted from 1, without its line end; an empty one if there are fewer.
 pub fn line_at(script: &[u8], number: usize) -> &[u8]
     ensures { result.now ≡ line_in (lines script.now) number }
 {

@@ -1,20 +1,24 @@
 //! The whole program over any ports.
-ghost use Rattle.std.specs.Prelude.{◌≡◌, ◌++◌, false, IfErr, IfOk, codes, decimal};
+ghost use Rattle.std.specs.Prelude.{◌≡◌, ◌++◌, List, false, IfErr, IfOk, codes, map};
 ghost use Rattle.std.specs.Str.Lines.{lines};
+ghost use Rattle.clap.specs.Words.{Text, kind_of};
+ghost use Rattle.lockcheck_program.specs.Arguments.{IsDue};
 ghost use Rattle.lockcheck_program.specs.Checks.{Checks, IsFound, WritesText};
-ghost use Rattle.lockcheck_program.specs.Runs.{Runs};
+ghost use Rattle.lockcheck_program.specs.Runs.{RefusesArguments, Runs};
 ghost use Rattle.lockcheck_program.specs.Reading.{IsReason, programs_of};
-ghost use Rattle.lockcheck_program.specs.Reports.{looked_status, looked_text, report_status};
+ghost use Rattle.lockcheck_program.specs.Reports.{counted, looked_status, looked_text, report_status};
 
 use crate::arguments::read_arguments;
 use crate::input::read_script;
 use crate::reading::{ScriptError, read_programs};
-use crate::refusals::refuse_script;
-use crate::report::report_text;
+use crate::refusals::{refuse_script, report_memory};
+use crate::report::{push_counted, report_text};
 use crate::statuses::{CIRCLE, STUCK};
+use clap::Error;
+use clap::error::ErrorKind;
 use lockcheck_orders::{Looked, Programs, Report, look};
-use program_shell::{DONE, FAILED, FailureLines, refuse_arguments, report_to};
-use script_io::{ByteIn, ByteOut, push_decimal, write_all};
+use program_shell::{DONE, FAILED, FailureLines, USAGE, report_to, usage_text};
+use script_io::{ByteIn, ByteOut, write_all};
 use state_search::Watch;
 use std::alloc::{AllocError, Global};
 use std::convert::AsStr;
@@ -48,12 +52,12 @@ fn status_of(report: &Report) -> u8
 /// The words for a search that gave up.
 #[tactic(auto, using(std::proofs::Common::append_assoc))]
 fn gave_up_text(alloc: Global, states: usize) -> Result<Vec<u8>, AllocError>
-    ensures { IfOk result (λ text. text.items ≡ codes "GAVE UP after " ++ decimal states ++ codes " states\n") }
+    ensures { IfOk result (λ text. text.items ≡ codes "GAVE UP after " ++ counted states (codes "state") ++ codes "\n") }
 {
     let mut text = Vec::new(alloc);
     text.extend_from_slice(b"GAVE UP after ")?;
-    push_decimal(&mut text, states)?;
-    text.extend_from_slice(b" states\n")?;
+    push_counted(&mut text, states, b"state")?;
+    text.extend_from_slice(b"\n")?;
     Ok(text)
 }
 
@@ -100,7 +104,7 @@ fn answer<T: Watch>(
     Ok(answered)
 }
 
-/// Writes a text, and gives the exit status: this one, or `FAILED` where the writer failed, which is reported.
+/// Writes a text, and gives the exit status: this one, or `FAILED` if the writer failed, which is reported.
 fn write_text<W: ByteOut, E: ByteOut>(writer: &mut W, text: &[u8], status: u8, errors: &mut E) -> u8
     requires writer_sound { W.has_failed writer.old ≡ false }
     requires errors_sound { E.has_failed errors.old ≡ false }
@@ -110,6 +114,32 @@ fn write_text<W: ByteOut, E: ByteOut>(writer: &mut W, text: &[u8], status: u8, e
     match write_all(writer, text) {
         Ok(()) => status,
         Err(_) => report_to(errors, b"lockcheck: write\n", FAILED),
+    }
+}
+
+/// Reports why the arguments are refused, or writes the help or the version that they ask for; gives the exit status.
+fn refuse_arguments<W: ByteOut, E: ByteOut>(
+    alloc: Global,
+    error: &Error,
+    writer: &mut W,
+    errors: &mut E,
+) -> u8
+    requires writer_sound { W.has_failed writer.old ≡ false }
+    requires errors_sound { E.has_failed errors.old ≡ false }
+    ensures { (arguments : List Text) → IsDue arguments (kind_of error.now)
+        → RefusesArguments arguments (W.written writer.old) (W.written writer.new) (W.has_failed writer.new)
+        (E.written errors.old) (E.written errors.new) (E.has_failed errors.new) result }
+{
+    let Ok(text) = usage_text(alloc, error) else {
+        return report_memory(errors);
+    };
+    let said = text.as_str().as_bytes();
+    match error.kind() {
+        ErrorKind::OutOfMemory => report_memory(errors),
+        ErrorKind::DisplayHelp | ErrorKind::DisplayVersion => {
+            write_text(writer, said, DONE, errors)
+        }
+        _ => report_to(errors, said, USAGE),
     }
 }
 
@@ -153,14 +183,14 @@ pub fn program<F: Files + AllocGlobal, S: AsStr, R: ByteIn, W: ByteOut, E: ByteO
     requires reader_sound { R.has_failed reader.old ≡ false }
     requires writer_sound { W.has_failed writer.old ≡ false }
     requires errors_sound { E.has_failed errors.old ≡ false }
-    ensures { Runs T.Looks watch.old watch.new (R.to_come reader.old) (R.to_come reader.new)
+    ensures { Runs T.Looks watch.old watch.new (map S.text arguments.now) (R.to_come reader.old) (R.to_come reader.new)
         (W.written writer.old) (W.written writer.new) (W.has_failed writer.new)
         (E.written errors.old) (E.written errors.new) (E.has_failed errors.new) result }
 {
     let alloc = rt.alloc();
     let options = match read_arguments(alloc, arguments) {
         Ok(options) => options,
-        Err(refusal) => return refuse_arguments(alloc, refusal, &FAILURE_LINES, writer, errors),
+        Err(error) => return refuse_arguments(alloc, &error, writer, errors),
     };
     match read_script(rt, &options.file, reader, errors) {
         Ok(script) => {

@@ -2,15 +2,18 @@
 
 ghost use Rattle.std.specs.Prelude.{◌≤◌, IfOk, length};
 
-use crate::served::MANY;
+use crate::lent_hosts::{LentReader, LentWriter, Plan};
 use queue_script::serve_queue;
-use script_io::{HostIn, HostOut, LentReader, LentWriter, Plan, ServeError, TestIn, TestOut};
+use script_io::{HostIn, HostOut, ServeError};
 use std::io;
 use std::io::{ErrorKind, Read, Write};
 
 const SCRIPT: &[u8] = b"ENQ 1 0 1 X\nENQ 2 0 2 X\nSTAT 2 X\nDEQ 1 0 X\n";
 
 const TEXT: &[u8] = b"OK\nWAIT\n140000,,000001 000001,,000001 000000,,000000\nOK\nGRANT 2 2\n";
+
+/// More calls than a test makes.
+const MANY: u64 = 1_000_000;
 
 /// A port of the host that passes bytes by threes, is interrupted before each of them, and fails in
 /// the end where its field says so.
@@ -77,9 +80,9 @@ fn interrupted_reads_are_made_again(rt: HostRuntime) {
     ] {
         let mut room = [0u8; 256];
         let mut reader = HostIn::new(Unsteady::new(SCRIPT, failure));
-        let mut writer = TestOut::new(&mut room, 100, MANY);
+        let mut writer = HostOut::over(LentWriter::new(&mut room, Plan::new(100, 0, MANY)));
         assert_eq!(rt; serve_queue(rt.alloc(), &mut reader, &mut writer), answer);
-        assert_eq!(rt; writer.as_slice(), TEXT);
+        assert_eq!(rt; writer.host.as_slice(), TEXT);
     }
 }
 
@@ -92,7 +95,7 @@ fn interrupted_writes_are_made_again(rt: HostRuntime) {
         (&TEXT[..20], Some(ErrorKind::Other), Err(ServeError::Write)),
         (&TEXT[..20], None, Err(ServeError::Write)),
     ] {
-        let mut reader = TestIn::new(SCRIPT, 100, MANY);
+        let mut reader = HostIn::over(script_by(100, 0, MANY));
         let mut writer = HostOut::new(Unsteady::new(room, failure));
         assert_eq!(rt; serve_queue(rt.alloc(), &mut reader, &mut writer), answer);
     }

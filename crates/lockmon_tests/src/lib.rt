@@ -1,14 +1,9 @@
-//! Tests of `lockmon` that need its calls: ports that fail at each call or are interrupted, and a script that is cut after
-//! each byte. All else is tested by the files in `tests/` and the scripts in `.ci/`.
+//! Tests of the ports of the host, which need its calls: they are interrupted, pass few bytes at once, take none, or fail. Ports
+//! that fail behind each byte are tested over the built programs.
 #![tactic(auto)]
 
 #[cfg(test)]
-mod examples;
-#[cfg(test)]
 mod host;
-#[cfg(test)]
-mod lines;
-#[cfg(test)]
-mod ports;
-#[cfg(test)]
-mod served;
+mod lent_hosts;
+
+pub use lent_hosts::{LentReader, LentWriter, Plan};

@@ -15,3 +15,4 @@ pub mod Limits
 pub mod Stretches
 pub mod Between
 pub mod Told
+pub mod Next

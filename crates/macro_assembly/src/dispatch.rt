@@ -83,7 +83,7 @@ fn take_bracket(state: &mut Assembly, work: &mut Work, step: BracketStep) {
 fn take_word(state: &mut Assembly, work: &mut Work, step: WordStep) {
     match step {
         WordStep::First { start, indirect } => read_after_first(state, work, start, indirect),
-        WordStep::RightHalf(left) => right_half(state, work, left),
+        WordStep::RightHalf { left, start } => right_half(state, work, left, start),
         WordStep::Indexed { base, placed } => finish_indexed_word(state, work, base, placed),
         WordStep::Base { indirect } => read_after_base(state, work, indirect),
         WordStep::Index(base) => index(state, work, base),
@@ -100,10 +100,17 @@ fn take_data(state: &mut Assembly, work: &mut Work, step: DataStep) {
     match step {
         DataStep::Element(place) => add_element(state, work, place),
         DataStep::Left { is_count } => behind_left(state, work, is_count),
-        DataStep::Right { left, is_count } => add_pair(state, work, left, is_count),
+        DataStep::Right {
+            left,
+            start,
+            is_count,
+        } => add_pair(state, work, left, start, is_count),
         DataStep::PointSize => behind_size(state, work),
         DataStep::PointAddress(size) => behind_address(state, work, size),
-        DataStep::PointBit { size, fields } => push_point(state, size, fields, work.value()),
+        DataStep::PointBit { size, fields } => {
+            let start = work.start();
+            push_point(state, size, fields, work.value(), start)
+        }
         DataStep::ByteSize { filling, name } => with_size(state, work, filling, name),
         DataStep::Byte { filling, name } => add_byte(state, work, filling, name),
         DataStep::Code(name) => add_radix50(state, work, name),

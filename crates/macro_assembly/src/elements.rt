@@ -49,15 +49,26 @@ fn pair(state: &mut Assembly, work: &mut Work, is_count: bool) {
 
 /// Goes on behind the left half.
 pub fn behind_left(state: &mut Assembly, work: &mut Work, is_count: bool) {
-    let left = work.value();
+    let right = DataStep::Right {
+        left: work.value(),
+        start: work.start(),
+        is_count,
+    };
     need_comma(state);
-    work.push(state, Step::Data(DataStep::Right { left, is_count }));
+    work.push(state, Step::Data(right));
     optional(state, work)
 }
 
-/// Adds the word of two halves.
-pub fn add_pair(state: &mut Assembly, work: &mut Work, left: Option<Value>, is_count: bool) {
-    push_pair(state, left, work.value(), is_count)
+/// Adds the word of two halves, of which the left one begins at `start`.
+pub fn add_pair(
+    state: &mut Assembly,
+    work: &mut Work,
+    left: Option<Value>,
+    start: Place,
+    is_count: bool,
+) {
+    let right = (work.value(), work.start());
+    push_pair(state, (left, start), right, is_count)
 }
 
 /// EXP, OCT and DEC: words with commas between them, whose numbers have this radix.
@@ -91,7 +102,8 @@ pub fn decimal(state: &mut Assembly, work: &mut Work) {
 
 /// Goes on behind the size of POINT.
 pub fn behind_size(state: &mut Assembly, work: &mut Work) {
-    let size = point_size(state, work.value());
+    let start = work.start();
+    let size = point_size(state, work.value(), start);
     need_comma(state);
     work.push(state, Step::Data(DataStep::PointAddress(size)));
     address(state, work)
@@ -101,7 +113,7 @@ pub fn behind_size(state: &mut Assembly, work: &mut Work) {
 pub fn behind_address(state: &mut Assembly, work: &mut Work, size: Option<u64>) {
     let fields = work.fields();
     if !state.eat(b',') {
-        return push_point(state, size, fields, None);
+        return push_point(state, size, fields, None, state.statement);
     }
     work.push(state, Step::Data(DataStep::PointBit { size, fields }));
     decimal(state, work)
@@ -124,18 +136,21 @@ fn next_byte(state: &mut Assembly, work: &mut Work, filling: Filling, name: Name
 
 /// Goes on behind a size of bytes.
 pub fn with_size(state: &mut Assembly, work: &mut Work, filling: Filling, name: Name) {
-    let size = required(state, work.value(), name, Fault::ByteSize);
-    let size = size_of_bytes(state, size);
+    let start = work.start();
+    let size = required(state, work.value(), name, Fault::ByteSize(0), start);
+    let size = size_of_bytes(state, size, start);
     next_byte(state, work, filling.with_size(size), name, true)
 }
 
 /// Adds a byte.
 pub fn add_byte(state: &mut Assembly, work: &mut Work, filling: Filling, name: Name) {
-    let filling = with_byte(state, filling, or_zero(work.value()));
+    let start = work.start();
+    let filling = with_byte(state, filling, or_zero(work.value()), start);
     next_byte(state, work, filling, name, false)
 }
 
 /// Adds the word of RADIX50.
 pub fn add_radix50(state: &mut Assembly, work: &mut Work, name: Name) {
-    push_radix50(state, work.value(), name)
+    let start = work.start();
+    push_radix50(state, work.value(), name, start)
 }

@@ -24,7 +24,8 @@ pub fn word(state: &mut Assembly, work: &mut Work) {
 pub fn read_after_first(state: &mut Assembly, work: &mut Work, start: Place, indirect: bool) {
     let first = work.value();
     if !indirect && eat_commas(state) {
-        work.push(state, Step::Word(WordStep::RightHalf(first)));
+        let right = WordStep::RightHalf { left: first, start };
+        work.push(state, Step::Word(right));
         return optional(state, work);
     }
     let is_indexed = is_index_next(state);
@@ -41,15 +42,17 @@ pub fn read_after_first(state: &mut Assembly, work: &mut Work, start: Place, ind
     work.give(Some(Value::of_word(base.word(), placed)))
 }
 
-/// Two halves, of which the right one is read.
-pub fn right_half(state: &mut Assembly, work: &mut Work, left: Option<Value>) {
-    let value = halves_value(state, left, work.value());
+/// Two halves, of which the left one begins at `start`, and the right one is read.
+pub fn right_half(state: &mut Assembly, work: &mut Work, left: Option<Value>, start: Place) {
+    let right = (work.value(), work.start());
+    let value = halves_value(state, (left, start), right);
     work.give(Some(value))
 }
 
 /// A word whose index is read.
 pub fn finish_indexed_word(state: &mut Assembly, work: &mut Work, base: Fields, placed: bool) {
-    let index = index_bits(state, or_zero(work.value()));
+    let start = work.start();
+    let index = index_bits(state, or_zero(work.value()), start);
     let word = base.with_index(index).word();
     work.give(Some(Value::of_word(word, placed)))
 }
@@ -63,7 +66,8 @@ pub fn address(state: &mut Assembly, work: &mut Work) {
 
 /// Goes on behind the value of an address.
 pub fn read_after_base(state: &mut Assembly, work: &mut Work, indirect: bool) {
-    let base = address_fields(state, or_zero(work.value()), indirect);
+    let start = work.start();
+    let base = address_fields(state, or_zero(work.value()), indirect, start);
     if is_index_next(state) {
         work.push(state, Step::Word(WordStep::Index(base)));
         return open(state, work, b'(');
@@ -73,7 +77,8 @@ pub fn read_after_base(state: &mut Assembly, work: &mut Work, indirect: bool) {
 
 /// The fields of an address whose index is read.
 pub fn index(state: &mut Assembly, work: &mut Work, base: Fields) {
-    let index = index_bits(state, or_zero(work.value()));
+    let start = work.start();
+    let index = index_bits(state, or_zero(work.value()), start);
     work.give_fields(base.with_index(index))
 }
 
@@ -100,7 +105,7 @@ pub fn instruction(state: &mut Assembly, work: &mut Work, operation: Operation) 
 pub fn behind_operand(state: &mut Assembly, work: &mut Work, takes_address: bool, place: Place) {
     let first = work.value();
     if eat_comma(state) {
-        let accumulator = accumulator_fields(state, or_zero(first));
+        let accumulator = accumulator_fields(state, or_zero(first), place);
         return behind_accumulator(state, work, takes_address, accumulator);
     }
     if !takes_address {

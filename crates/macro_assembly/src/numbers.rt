@@ -24,7 +24,7 @@ pub fn radix_value(state: &mut Assembly, work: &mut Work, radix: u8, place: Plac
 
 /// Reads `B` and a bit number behind the value, which begins at `start`, if they are there.
 pub fn bits(state: &mut Assembly, work: &mut Work, start: Place) {
-    let Some(place) = take_bits(state, start) else {
+    let Some(place) = take_bits(state) else {
         return;
     };
     let number = next_place(state);

@@ -56,7 +56,7 @@ pub fn read_after_term(
 /// The next operator that takes this left side, if one is next. Those of one strength go from left to right.
 fn operators(state: &mut Assembly, work: &mut Work, left: LeftSide) {
     let Some(between) = take_operator(state, left.least) else {
-        return work.give(Some(left.value));
+        return work.give_from(left.value, left.start);
     };
     let place = start_of_value(state);
     let right = ExpressionStep::RightSide {

@@ -3,9 +3,10 @@
 use crate::dispatch::carry_out;
 use crate::steps::Work;
 use macro_faults::{Failure, Fault, Report};
-use macro_names::{Name, NameReader, is_blank, is_digit, is_name_character};
+use macro_names::{Name, NameReader, is_blank, is_digit, is_name_character, text_of};
 use macro_operations::{of_dialect, of_subset};
 use macro_state::Assembly;
+use search_files::has_macro;
 use std::alloc::{AllocError, Global};
 
 /// Assembles a source in two passes. `faults` of the assembly has what is wrong with the source; it is empty where the
@@ -32,7 +33,35 @@ fn run_passes(state: &mut Assembly, work: &mut Work) -> Result<(), AllocError> {
         return Ok(());
     }
     run_pass(state, work, 2)?;
+    report_absent(state)?;
     report_moved(state)
+}
+
+/// Whether a fault says that a name stands for nothing here.
+fn is_of_missing(fault: Fault) -> bool {
+    match fault {
+        Fault::NotDefined(_) | Fault::NotSearched(_) | Fault::LeftOut(_, _, _) => true,
+        Fault::Refused(_) => true,
+        _ => false,
+    }
+}
+
+/// Reports the files of SEARCH that are not here, where names are missing that they may have.
+fn report_absent(state: &mut Assembly) -> Result<(), AllocError> {
+    if !state
+        .faults
+        .as_slice()
+        .iter()
+        .any(|report| is_of_missing(report.fault))
+    {
+        return Ok(());
+    }
+    for at in 0..state.absent_files.len() {
+        if let Some(report) = state.absent_files.as_slice().get(at).copied() {
+            state.report(report)?;
+        }
+    }
+    Ok(())
 }
 
 /// Reports what has another place in the second pass, where nothing else is wrong.
@@ -68,6 +97,7 @@ fn report_failure(state: &mut Assembly, failure: Failure) -> Result<(), AllocErr
     match failure {
         Failure::Memory => Err(AllocError),
         Failure::Reported(report) => state.report(report),
+        Failure::Told => Ok(()),
     }
 }
 
@@ -110,7 +140,7 @@ fn run_pass(state: &mut Assembly, work: &mut Work, pass: u8) -> Result<(), Alloc
         } else if goes_on {
             is_clean = true;
         } else {
-            if is_clean {
+            if is_clean && !state.end_begun {
                 end_source(state)?;
             }
             state.ended = true;
@@ -165,11 +195,19 @@ fn run_at(state: &Assembly, from: usize) -> Run {
     }
 }
 
+/// Whether a name, as a label, takes the place of a statement of this dialect; or, in a source with SEARCH, of a macro that SEARCH
+/// defines.
+fn takes_place(name: Name, searches: bool) -> bool {
+    of_dialect(name).is_some() && of_subset(name).is_none()
+        || searches && has_macro(text_of(name).as_slice())
+}
+
 /// Finds the names that stand as labels in the source, up to the line with END, and that only the dialect has as
-/// operations.
+/// operations, or SEARCH as macros.
 fn find_soft_names(state: &mut Assembly) -> Result<(), AllocError> {
     let mut at = 0usize;
     let mut in_line = false;
+    let mut searches = false;
     for _ in 0..state.stream.source_len() {
         if at >= state.stream.source_len() {
             break;
@@ -183,16 +221,14 @@ fn find_soft_names(state: &mut Assembly) -> Result<(), AllocError> {
         at = run.end;
         if run.is_name && source_character(state, at) == b':' {
             at = at.saturating_add(1);
-            if of_dialect(run.name).is_some()
-                && of_subset(run.name).is_none()
-                && !state.is_soft(run.name)
-            {
+            if takes_place(run.name, searches) && !state.is_soft(run.name) {
                 state.assumed_labels.push(run.name)?;
             }
         } else {
             if run.is_name && run.name == Name::of(b"END") {
                 break;
             }
+            searches = searches || run.is_name && run.name == Name::of(b"SEARCH");
             in_line = true;
         }
     }

@@ -30,6 +30,7 @@ pub fn directive(
         decimal(state, work)
     } else if takes_value(pseudo) {
         begin_needed(state);
+        state.end_begun = state.end_begun || pseudo == Pseudo::End;
         let step = StatementStep::Directive {
             pseudo,
             name,
@@ -52,12 +53,14 @@ fn opdef(state: &mut Assembly, work: &mut Work, what: Name, place: Place) {
 
 /// Defines an operation, whose word is read.
 pub fn defined(state: &mut Assembly, work: &mut Work, name: Name, what: Name, place: Place) {
-    define_operation(state, work.value(), name, what, place)
+    let start = work.start();
+    define_operation(state, work.value(), name, what, place, start)
 }
 
 /// Sets the radix, which is read.
 pub fn radix(state: &mut Assembly, work: &mut Work, name: Name) {
-    set_radix(state, work.value(), name)
+    let start = work.start();
+    set_radix(state, work.value(), name, start)
 }
 
 /// Carries out a pseudo-operation whose value is read.
@@ -68,5 +71,6 @@ pub fn with_value(
     name: Name,
     in_literal: bool,
 ) {
-    value_directive(state, pseudo, name, work.value(), in_literal)
+    let start = work.start();
+    value_directive(state, pseudo, name, work.value(), in_literal, start)
 }

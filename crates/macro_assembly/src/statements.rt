@@ -56,6 +56,7 @@ fn pseudo_statement(
     let end = StatementStep::End { in_literal };
     work.push(state, Step::Statement(end));
     if in_literal {
+        state.end_begun = state.end_begun || pseudo == Pseudo::End;
         refuse_in_literal(state, pseudo, name);
     }
     if !data_words(state, work, pseudo, name) {

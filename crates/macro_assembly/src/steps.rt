@@ -76,8 +76,8 @@ pub enum BracketStep {
 pub enum WordStep {
     /// The first value of a word is read.
     First { start: Place, indirect: bool },
-    /// The right half is read.
-    RightHalf(Option<Value>),
+    /// The right half is read; the left one begins at `start`.
+    RightHalf { left: Option<Value>, start: Place },
     /// The index of a word is read.
     Indexed { base: Fields, placed: bool },
     /// The value of an address is read.
@@ -98,19 +98,34 @@ pub enum DataStep {
     /// An element is read.
     Element(Place),
     /// The left half is read.
-    Left { is_count: bool },
-    /// The right half is read.
-    Right { left: Option<Value>, is_count: bool },
+    Left {
+        is_count: bool,
+    },
+    /// The right half is read; the left one begins at `start`.
+    Right {
+        left: Option<Value>,
+        start: Place,
+        is_count: bool,
+    },
     /// The size of POINT is read.
     PointSize,
     /// The address of POINT is read.
     PointAddress(Option<u64>),
     /// The last bit of POINT is read.
-    PointBit { size: Option<u64>, fields: Fields },
+    PointBit {
+        size: Option<u64>,
+        fields: Fields,
+    },
     /// The size of bytes is read.
-    ByteSize { filling: Filling, name: Name },
+    ByteSize {
+        filling: Filling,
+        name: Name,
+    },
     /// A byte is read.
-    Byte { filling: Filling, name: Name },
+    Byte {
+        filling: Filling,
+        name: Name,
+    },
     /// The code of RADIX50 is read.
     Code(Name),
 }
@@ -205,6 +220,7 @@ pub enum Step {
 pub struct Work {
     steps: Vec<Step>,
     value: Option<Value>,
+    start: Place,
     fields: Fields,
 }
 
@@ -214,6 +230,7 @@ impl Work {
         Work {
             steps: Vec::new(alloc),
             value: None,
+            start: Place::new(1, 1),
             fields: Fields::none(),
         }
     }
@@ -232,6 +249,17 @@ impl Work {
     /// Hands the operand just read to the next step; `None` if there was none.
     pub fn give(&mut self, value: Option<Value>) {
         self.value = value;
+    }
+
+    /// Hands the operand just read to the next step, with where it begins.
+    pub fn give_from(&mut self, value: Value, start: Place) {
+        self.value = Some(value);
+        self.start = start;
+    }
+
+    /// Where the expression begins that was read last.
+    pub fn start(&self) -> Place {
+        self.start
     }
 
     /// The operand that was read last; `None` if there was none.

@@ -3,6 +3,7 @@
 
 mod faults;
 mod reports;
+mod spellings;
 mod words;
 
 pub use faults::Fault;

@@ -20,6 +20,8 @@ pub enum Failure {
     Memory,
     /// What is wrong with it.
     Reported(Report),
+    /// What is wrong with it is reported already.
+    Told,
 }
 
 impl Failure {

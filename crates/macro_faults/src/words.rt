@@ -2,168 +2,294 @@
 
 use crate::faults::Fault;
 use crate::reports::Report;
-use macro_names::{Name, text_of};
+use crate::spellings::push_name;
+use macro_names::Name;
 use macro_stream::{Around, Place};
-use script_io::push_decimal;
+use script_io::{push_decimal, push_escaped};
 use std::alloc::AllocError;
 use word36::octal_digits;
 
 /// How many texts around a place are shown.
 const MOST_SHOWN: u32 = 10;
 
+/// What a sentence on a fault names.
+#[derive(Clone, Copy)]
+enum Told {
+    /// Other words.
+    Words(&'static str),
+    /// A name, as the source has it.
+    Name(Name),
+    /// A character.
+    Character(u8),
+    /// A number in decimal.
+    Decimal(i64),
+    /// A number in octal, where it has 64 bits.
+    Octal(Option<i64>),
+    /// A place.
+    Place(u32),
+}
+
+/// The sentence of a fault: words with what they name between them.
+#[derive(Clone, Copy)]
+struct Sentence(&'static str, Told, &'static str, Told, &'static str);
+
+/// What is said of nothing more.
+const NO_MORE: Told = Told::Words("");
+
+/// The number that a fault says does not fit, and its limits, if it says that.
+fn misfit_words(fault: Fault) -> Option<(Told, &'static str)> {
+    let told = match fault {
+        Fault::Accumulator(n) => (Told::Octal(Some(n)), "an accumulator is 0 to 17 (octal)"),
+        Fault::Index(n) => (
+            Told::Octal(Some(i64::from(n))),
+            "an index register is 0 to 17 (octal)",
+        ),
+        Fault::Half(n) => (
+            Told::Octal(n),
+            "a half or an address is -777777 to 777777 (octal)",
+        ),
+        Fault::NoWord(n) => (Told::Octal(n), "a word is -2^35 to 2^36-1"),
+        Fault::BitNumber(n) => (Told::Decimal(n), "the bit behind B is 0 to 35 (decimal)"),
+        Fault::ByteSize(n) => (Told::Decimal(n), "the size of a byte is 1 to 36 (decimal)"),
+        Fault::PointSize(n) => (Told::Decimal(n), "POINT's size is 0 to 36 (decimal)"),
+        Fault::PointBit(n) => (Told::Decimal(n), "POINT's bit is 0 to 35 (decimal)"),
+        Fault::Radix(n) => (Told::Decimal(n), "a radix is 2 to 10 (decimal)"),
+        Fault::PlaceRange(n) => (Told::Octal(Some(n)), "a place is 0 to 777777 (octal)"),
+        Fault::BlockSize(n) => (Told::Octal(Some(n)), "BLOCK keeps 0 words or more"),
+        Fault::BlockInLiteral(n) => (
+            Told::Octal(Some(n)),
+            "BLOCK in a literal keeps 1 to 1000000 words (octal)",
+        ),
+        Fault::Start(n) => (Told::Octal(Some(n)), "a start is 0 to 777777 (octal)"),
+        _ => return None,
+    };
+    Some(told)
+}
+
+/// The name with which a fault's sentence begins in quotes, and the words behind it, if it begins so.
+fn name_words(fault: Fault) -> Option<(Name, &'static str)> {
+    match fault {
+        Fault::NotDefined(name) => Some((name, " is not defined")),
+        Fault::NotSearched(name) => Some((name, " is not defined: SEARCH UUOSYM defines it")),
+        Fault::Refused(name) => Some((name, " is not an operation of this assembler")),
+        Fault::Linking(name, _) => Some((name, ": there is one source and no linking")),
+        Fault::Segments(name) => Some((name, ": there is one segment: write LOC")),
+        Fault::Universal(name) => Some((name, ": there is one source; SEARCH UUOSYM is built in")),
+        Fault::NoFile(name) => Some((
+            name,
+            " is no file here, and defines nothing: of those of SEARCH there is UUOSYM alone",
+        )),
+        Fault::Duplicate(name) | Fault::UseOfDuplicate(name) => {
+            Some((name, " is defined more than once"))
+        }
+        Fault::OtherThing(name) => Some((name, " is a label, or defined as another thing")),
+        Fault::TwoDummies(name) => Some((name, " is a dummy of this macro already")),
+        Fault::OtherPlace(name) => Some((name, " has another place in the second pass")),
+        _ => None,
+    }
+}
+
+/// The words of a fault that has nothing to name, if it has nothing.
+fn plain_words(fault: Fault) -> Option<&'static str> {
+    match fault {
+        Fault::NotAscii => Some("a byte that is not ASCII"),
+        Fault::ExpectedAtEnd => Some("expected more before the end of the line"),
+        Fault::Float => Some("floating-point constants are not here"),
+        Fault::Product => Some("a product does not fit a word"),
+        Fault::Quotient => Some("a quotient by zero"),
+        Fault::EmptyQuote => Some("one character at least is wanted between the quotes"),
+        Fault::LongQuote(b'"') => Some("five characters are the most between \" and \""),
+        Fault::LongQuote(_) => Some("six characters are the most between ' and '"),
+        Fault::NoParenthesis => Some("no ) behind the arguments"),
+        Fault::EmptyLiteral => Some("a literal gives at least one word"),
+        Fault::StopiOutside => Some("STOPI stands in no IRP"),
+        Fault::OtherPool => Some("the literals have another place in the second pass"),
+        Fault::NoEnd => Some("no END"),
+        _ => None,
+    }
+}
+
+/// The sentence of a fault about a number or a character that is none of the others'.
+fn value_sentence(fault: Fault) -> Sentence {
+    let (before, told, behind) = match fault {
+        Fault::Digits(number, 8) => (
+            "\"",
+            Told::Decimal(number),
+            "\" is no number in octal, which numbers are unless RADIX, \"^D\" or a point says otherwise",
+        ),
+        Fault::Digits(number, 2) => ("\"", Told::Decimal(number), "\" is no number in binary"),
+        Fault::Digits(number, _) => (
+            "\"",
+            Told::Decimal(number),
+            "\" is no number of the radix that RADIX says",
+        ),
+        Fault::LongDigits(radix) => (
+            "a digit that radix ",
+            Told::Decimal(i64::from(radix)),
+            " does not have",
+        ),
+        Fault::ExpectedNumberEnd(found) => (
+            "expected the end of the number, not \"",
+            Told::Character(found),
+            "\"",
+        ),
+        Fault::Expected(found) => ("expected a value, not \"", Told::Character(found), "\""),
+        Fault::ExpectedEnd(found) => (
+            "expected the end of the statement, not \"",
+            Told::Character(found),
+            "\"",
+        ),
+        Fault::NoQuote(mark) => ("no ", Told::Character(mark), " behind the characters"),
+        Fault::NoSixbit(character) => (
+            "\"",
+            Told::Character(character),
+            "\" is a character that SIXBIT does not have",
+        ),
+        Fault::TwoWords(place) => ("place ", Told::Place(place), " has a word already"),
+        Fault::Needs(name) => ("what ", Told::Name(name), " needs is not there"),
+        Fault::LateValue(needs) => ("", Told::Name(needs), " needs its value in the first pass"),
+        Fault::NotInLiteral(name) => ("", Told::Name(name), " is not possible in a literal"),
+        Fault::IrpOutside(name) => (
+            "",
+            Told::Name(name),
+            " needs a dummy argument of the macro around it",
+        ),
+        _ => ("", NO_MORE, ""),
+    };
+    Sentence(before, told, behind, NO_MORE, "")
+}
+
+/// The sentence of a fault that is none of the others'.
+fn sentence_of(fault: Fault) -> Sentence {
+    match fault {
+        Fault::ByteValue(number, bits) => Sentence(
+            "",
+            Told::Octal(Some(number)),
+            " does not fit a byte of size ",
+            Told::Decimal(bits),
+            " (decimal)",
+        ),
+        Fault::LeftOut(name, reason, _) => Sentence(
+            "\"",
+            Told::Name(name),
+            "\" is not here: ",
+            Told::Words(reason.words()),
+            "",
+        ),
+        Fault::Late(needs, name) => Sentence(
+            "",
+            Told::Name(needs),
+            " needs its value in the first pass: \"",
+            Told::Name(name),
+            "\" is not defined yet",
+        ),
+        Fault::NotOneWord(name, words) => Sentence(
+            "one word is wanted here, and ",
+            Told::Name(name),
+            " gives ",
+            Told::Decimal(i64::from(words)),
+            "",
+        ),
+        Fault::OpenText(what, name) => Sentence(
+            "no > for the < of ",
+            Told::Name(what),
+            if name.sixbit() == 0 { "" } else { " " },
+            Told::Name(name),
+            "",
+        ),
+        Fault::NoText(mark, name) => Sentence(
+            "no second ",
+            Told::Character(mark),
+            " for the text of ",
+            Told::Name(name),
+            "",
+        ),
+        Fault::Limit(limit) => Sentence(
+            "limit ",
+            Told::Words(limit.name()),
+            ": more than ",
+            Told::Decimal(i64::from(limit.most())),
+            "",
+        ),
+        other => value_sentence(other),
+    }
+}
+
+/// Adds words.
 fn push(out: &mut Vec<u8>, text: &str) -> Result<(), AllocError> {
     out.extend_from_slice(text.as_bytes())
 }
 
-fn push_name(out: &mut Vec<u8>, name: Name) -> Result<(), AllocError> {
-    out.extend_from_slice(text_of(name).as_slice())
+/// Adds a character; one that does not print as a backslash and three octal digits, so that no source speaks to a terminal.
+fn push_character(out: &mut Vec<u8>, character: u8) -> Result<(), AllocError> {
+    if character > 31 && character < 127 {
+        out.push(character)?;
+        Ok(())
+    } else {
+        push_escaped(out, character)
+    }
 }
 
-/// Adds a name in quotes, and words behind it.
-fn push_quoted(out: &mut Vec<u8>, name: Name, behind: &str) -> Result<(), AllocError> {
-    push(out, "\"")?;
-    push_name(out, name)?;
-    push(out, "\"")?;
-    push(out, behind)
+/// Adds a number in octal.
+fn push_octal(out: &mut Vec<u8>, number: i64) -> Result<(), AllocError> {
+    if number < 0 {
+        out.push(b'-')?;
+    }
+    let digits = octal_digits::<22>(number.unsigned_abs());
+    let zeros = match digits.iter().position(|digit| *digit != b'0') {
+        Some(zeros) => zeros,
+        None => 21,
+    };
+    out.extend_from_slice(digits.get(zeros..).unwrap_or(&[]))
 }
 
-/// Adds words with a name behind them.
-fn push_of(out: &mut Vec<u8>, before: &str, name: Name, behind: &str) -> Result<(), AllocError> {
-    push(out, before)?;
-    push_name(out, name)?;
-    push(out, behind)
+/// Adds what a sentence names.
+fn push_told(out: &mut Vec<u8>, told: Told, source: &[u8], line: u32) -> Result<(), AllocError> {
+    match told {
+        Told::Words(words) => push(out, words),
+        Told::Name(name) => push_name(out, name, source, line),
+        Told::Character(character) => push_character(out, character),
+        Told::Decimal(number) => push_decimal(out, number),
+        Told::Octal(Some(number)) => push_octal(out, number),
+        Told::Octal(None) => push(out, "this value"),
+        Told::Place(place) => out.extend_from_slice(&octal_digits::<6>(u64::from(place))),
+    }
 }
 
-/// Adds words with a character between them.
-fn push_around(
+/// Adds the words of a fault on a line of a source, whose names it spells.
+pub fn push_words(
     out: &mut Vec<u8>,
-    before: &str,
-    character: u8,
-    behind: &str,
+    fault: Fault,
+    source: &[u8],
+    line: u32,
 ) -> Result<(), AllocError> {
+    if let Some(words) = plain_words(fault) {
+        return push(out, words);
+    }
+    if let Some((number, words)) = misfit_words(fault) {
+        push_told(out, number, source, line)?;
+        push(out, " does not fit: ")?;
+        return push(out, words);
+    }
+    if let Some((name, words)) = name_words(fault) {
+        push(out, "\"")?;
+        push_name(out, name, source, line)?;
+        push(
+            out,
+            if matches!(&fault, Fault::Linking(_, true)) {
+                "##\""
+            } else {
+                "\""
+            },
+        )?;
+        return push(out, words);
+    }
+    let Sentence(before, one, between, other, behind) = sentence_of(fault);
     push(out, before)?;
-    out.push(character)?;
+    push_told(out, one, source, line)?;
+    push(out, between)?;
+    push_told(out, other, source, line)?;
     push(out, behind)
-}
-
-/// The words of a fault that has nothing to name.
-fn plain_words(fault: Fault) -> &'static str {
-    match fault {
-        Fault::NotAscii => "a byte that is not ASCII",
-        Fault::ExpectedAtEnd => "expected more before the end of the line",
-        Fault::Accumulator => "an accumulator is 0 to 17 (octal)",
-        Fault::Index => "an index register is 0 to 17 (octal)",
-        Fault::Half => "a half or an address is -777777 to 777777 (octal)",
-        Fault::ByteValue => "a value does not fit its byte",
-        Fault::NoWord => "a value does not fit a word",
-        Fault::BitNumber => "the bit behind B is 0 to 35",
-        Fault::Float => "floating-point constants are not here",
-        Fault::Product => "a product does not fit a word",
-        Fault::Quotient => "a quotient by zero",
-        Fault::NoSixbit => "a character that SIXBIT does not have",
-        Fault::ByteSize => "the size of a byte is 1 to 36 (decimal)",
-        Fault::PointSize => "POINT's size is 0 to 36 (decimal)",
-        Fault::PointBit => "POINT's bit is 0 to 35 (decimal)",
-        Fault::Radix => "a radix is 2 to 10 (decimal)",
-        Fault::PlaceRange => "a place is 0 to 777777 (octal)",
-        Fault::Start => "a start is 0 to 777777 (octal)",
-        Fault::BlockInLiteral => "BLOCK in a literal is of one word at least",
-        Fault::BlockSize => "BLOCK is not negative",
-        Fault::NoParenthesis => "no ) behind the arguments",
-        Fault::EmptyLiteral => "a literal gives at least one word",
-        Fault::StopiOutside => "STOPI stands in no IRP",
-        Fault::OtherPool => "the literals have another place in the second pass",
-        Fault::NoEnd => "no END",
-        _ => "",
-    }
-}
-
-/// Adds the words of a fault of a name.
-fn push_named(out: &mut Vec<u8>, fault: Fault) -> Result<(), AllocError> {
-    match fault {
-        Fault::NotDefined(name) => push_quoted(out, name, " is not defined"),
-        Fault::Refused(name) => push_quoted(out, name, " is not an operation of this assembler"),
-        Fault::Linking(name, marked) => {
-            push(out, "\"")?;
-            push_name(out, name)?;
-            push(out, if marked { "##" } else { "" })?;
-            push(out, "\": there is one source and no linking")
-        }
-        Fault::Segments(name) => push_quoted(out, name, ": there are no segments"),
-        Fault::Universal(name) => push_quoted(
-            out,
-            name,
-            ": there is one source; SEARCH UUOSYM is built in",
-        ),
-        Fault::Duplicate(name) | Fault::UseOfDuplicate(name) => push_quoted(
-            out,
-            name,
-            " is defined more than once",
-        ),
-        Fault::OtherThing(name) => push_quoted(
-            out,
-            name,
-            " is a label, or defined as another thing",
-        ),
-        Fault::Late(needs, name) => {
-            push_of(out, "", needs, " needs its value in the first pass: ")?;
-            push_quoted(out, name, " is not defined yet")
-        }
-        Fault::LateValue(needs) => push_of(out, "", needs, " needs its value in the first pass"),
-        Fault::Needs(name) => push_of(out, "what ", name, " needs is not there"),
-        Fault::NotInLiteral(name) => push_of(out, "", name, " is not possible in a literal"),
-        Fault::OpenText(what, name) => {
-            push_of(out, "no > for the < of ", what, "")?;
-            if name.sixbit() == 0 {
-                return Ok(());
-            }
-            push_of(out, " ", name, "")
-        }
-        Fault::IrpOutside(name) => push_of(
-            out,
-            "",
-            name,
-            " needs a dummy argument of the macro around it",
-        ),
-        Fault::OtherPlace(name) => push_quoted(out, name, " has another place in the second pass"),
-        other => push(out, plain_words(other)),
-    }
-}
-
-/// Adds the words of a fault.
-pub fn push_words(out: &mut Vec<u8>, fault: Fault) -> Result<(), AllocError> {
-    match fault {
-        Fault::Expected(found) => push_around(out, "expected a value, not \"", found, "\""),
-        Fault::ExpectedEnd(found) => push_around(
-            out,
-            "expected the end of the statement, not \"",
-            found,
-            "\"",
-        ),
-        Fault::Digit(radix) => {
-            push(out, "a digit that radix ")?;
-            push_decimal(out, radix)?;
-            push(out, " does not have")
-        }
-        Fault::NoText(mark, name) => {
-            push_around(out, "no second ", mark, " for the text of ")?;
-            push_name(out, name)?;
-            push(out, if name == Name::of(b"COMMEN") { "T" } else { "" })
-        }
-        Fault::NoQuote(mark) => push_around(out, "no ", mark, " behind the characters"),
-        Fault::TwoWords(place) => {
-            push(out, "place ")?;
-            out.extend_from_slice(&octal_digits::<6>(u64::from(place)))?;
-            push(out, " has a word already")
-        }
-        Fault::Limit(limit) => {
-            push(out, "limit ")?;
-            push(out, limit.name())?;
-            push(out, ": more than ")?;
-            push_decimal(out, limit.most())
-        }
-        other => push_named(out, other),
-    }
 }
 
 /// Adds the lines of the texts around a place, the innermost first; `outer` are those that the stream kept.
@@ -171,10 +297,13 @@ pub fn push_around_place(
     out: &mut Vec<u8>,
     place: Place,
     outer: &[Around],
+    source: &[u8],
 ) -> Result<(), AllocError> {
     let mut around = place.around;
     for _ in 0..place.texts.min(MOST_SHOWN) {
-        push_of(out, " in ", around.name, " line ")?;
+        push(out, " in ")?;
+        push_name(out, around.name, source, place.line)?;
+        push(out, " line ")?;
         push_decimal(out, around.line)?;
         out.push(b'\n')?;
         around = outer.get(around.outer).copied().unwrap_or(around);
@@ -187,9 +316,14 @@ pub fn push_around_place(
     Ok(())
 }
 
-/// Adds the lines of a fault: `?MACRO line:column letter words`, and the texts around it, each with its line; `outer` are
-/// the texts around places that the stream kept.
-pub fn push_report(out: &mut Vec<u8>, report: &Report, outer: &[Around]) -> Result<(), AllocError> {
+/// Adds the lines of a fault of a source: `?MACRO line:column letter words`, and the texts around it, each with its line;
+/// `outer` are the texts around places that the stream kept.
+pub fn push_report(
+    out: &mut Vec<u8>,
+    report: &Report,
+    outer: &[Around],
+    source: &[u8],
+) -> Result<(), AllocError> {
     let report = *report;
     push(out, "?MACRO ")?;
     push_decimal(out, report.place.line)?;
@@ -198,7 +332,7 @@ pub fn push_report(out: &mut Vec<u8>, report: &Report, outer: &[Around]) -> Resu
     out.push(b' ')?;
     out.push(report.fault.letter())?;
     out.push(b' ')?;
-    push_words(out, report.fault)?;
+    push_words(out, report.fault, source, report.place.line)?;
     out.push(b'\n')?;
-    push_around_place(out, report.place, outer)
+    push_around_place(out, report.place, outer, source)
 }

@@ -77,15 +77,10 @@ impl Text {
 }
 
 /// The source of the words of an assembly, or what is wrong with it.
-fn assembled_text(alloc: Global, state: &Assembly) -> Result<Text, AllocError> {
+fn assembled_text(alloc: Global, state: &Assembly, source: &[u8]) -> Result<Text, AllocError> {
     if !state.faults.is_empty() {
         let mut text = Vec::new(alloc);
-        push_faults(
-            &mut text,
-            alloc,
-            state.faults.as_slice(),
-            state.stream.around(),
-        )?;
+        push_faults(&mut text, state, source)?;
         return Ok(Text::Errors(text));
     }
     match source_of(state)? {
@@ -103,11 +98,11 @@ fn is_text_of(state: &Assembly, text: &[u8]) -> Result<bool, AllocError> {
 }
 
 /// What goes to standard output for a source that is assembled. `plain` is what the subset assembler made of the same source.
-fn text_of(alloc: Global, state: &Assembly, plain: Plain) -> Result<Text, AllocError>
-    ensures { IfOk result (λ text. (source : List ℕ) → IsPlain source plain → Answers source text) }
+fn text_of(alloc: Global, state: &Assembly, source: &[u8], plain: Plain) -> Result<Text, AllocError>
+    ensures { IfOk result (λ text. IsPlain source.now plain → Answers source.now text) }
 {
     match plain {
-        Plain::NotInSubset => assembled_text(alloc, state),
+        Plain::NotInSubset => assembled_text(alloc, state, source),
         Plain::Written(_) if !state.faults.is_empty() => Ok(Text::NotListed),
         Plain::Written(written) => {
             if is_text_of(state, written.text.as_slice())? {
@@ -145,7 +140,7 @@ fn output_of(
     requires { IsPlain source.now plain }
     ensures { IfOk result (λ output. Answers source.now output.text) }
 {
-    let text = text_of(alloc, state, plain)?;
+    let text = text_of(alloc, state, source, plain)?;
     let is_refused = !state.faults.is_empty();
     let listing = if options.list.is_some() {
         Some(listing_of(alloc, state, source)?)

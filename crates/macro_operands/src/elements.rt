@@ -3,21 +3,28 @@
 use crate::instructions::{Fields, halves};
 use crate::operators::{as_word, or_zero};
 use crate::settings::begin_needed;
+use mac_text::TextForm;
 use macro_faults::Fault;
 use macro_names::{Name, sixbit_of, text_of};
-use macro_operations::Text;
 use macro_state::{Assembly, Value};
+use macro_stream::Place;
 use word36::Word;
 
-/// Adds the word of XWD, or that of IOWD: the left half negated, the right half one less.
-pub fn push_pair(state: &mut Assembly, left: Option<Value>, right: Option<Value>, is_count: bool) {
-    let mut left = or_zero(left);
-    let mut right = or_zero(right);
+/// Adds the word of XWD, or that of IOWD: the left half negated, the right half one less. Each half stands with where it begins.
+pub fn push_pair(
+    state: &mut Assembly,
+    left: (Option<Value>, Place),
+    right: (Option<Value>, Place),
+    is_count: bool,
+) {
+    let (left_place, right_place) = (left.1, right.1);
+    let mut left = or_zero(left.0);
+    let mut right = or_zero(right.0);
     if is_count {
         left = difference(state, Value::zero(), left);
         right = difference(state, right, Value::signed(1, false));
     }
-    let word = halves(state, left, right);
+    let word = halves(state, (left, left_place), (right, right_place));
     state.push_word(word);
 }
 
@@ -38,37 +45,42 @@ fn difference(state: &mut Assembly, value: Value, less: Value) -> Value {
     }
 }
 
-/// A number of POINT, which is not above a limit.
-fn limited(state: &mut Assembly, value: Value, most: i64, fault: Fault) -> Option<u64> {
-    let Some(number) = state.known(value) else {
+/// The size that POINT gives, which begins at a place.
+pub fn point_size(state: &mut Assembly, size: Option<Value>, place: Place) -> Option<u64> {
+    let Some(number) = state.known(or_zero(size)) else {
         return None;
     };
-    if number < 0 || number > most {
-        state.misfit(state.statement, fault);
+    if number < 0 || number > 36 {
+        state.misfit(place, Fault::PointSize(number));
         return None;
     }
     Some(number as u64)
 }
 
-/// The size that POINT gives.
-pub fn point_size(state: &mut Assembly, size: Option<Value>) -> Option<u64> {
-    limited(state, or_zero(size), 36, Fault::PointSize)
-}
-
-/// The position of POINT's last bit; where no bit is given it is 36.
-fn position_of(state: &mut Assembly, bit: Option<Value>) -> Option<u64> {
+/// The position of POINT's last bit, which begins at a place; where no bit is given it is 36.
+fn position_of(state: &mut Assembly, bit: Option<Value>, place: Place) -> Option<u64> {
     let Some(bit) = bit else {
         return Some(36);
     };
-    match limited(state, bit, 35, Fault::PointBit) {
-        Some(bit) => Some(35u64.saturating_sub(bit)),
-        None => None,
+    let Some(number) = state.known(bit) else {
+        return None;
+    };
+    if number < 0 || number > 35 {
+        state.misfit(place, Fault::PointBit(number));
+        return None;
     }
+    Some(35u64.saturating_sub(number as u64))
 }
 
-/// Adds the word of POINT, whose address has these fields.
-pub fn push_point(state: &mut Assembly, size: Option<u64>, fields: Fields, bit: Option<Value>) {
-    let position = position_of(state, bit);
+/// Adds the word of POINT, whose address has these fields, and whose bit begins at a place.
+pub fn push_point(
+    state: &mut Assembly,
+    size: Option<u64>,
+    fields: Fields,
+    bit: Option<Value>,
+    place: Place,
+) {
+    let position = position_of(state, bit, place);
     let word = match (size, position) {
         (Some(size), Some(position)) => {
             let high = position.wrapping_mul(64).wrapping_add(size);
@@ -80,30 +92,25 @@ pub fn push_point(state: &mut Assembly, size: Option<u64>, fields: Fields, bit: 
     state.push_word(fields.plus(pointer).word());
 }
 
-/// The code of a character of a text.
-fn text_code(state: &mut Assembly, text: Text, character: u8) -> u64 {
-    if text != Text::Sixbit {
-        return u64::from(character);
-    }
-    match sixbit_of(character) {
-        Some(code) => u64::from(code),
-        None => {
-            state.fail_statement(Fault::NoSixbit);
-            0
-        }
+/// The code of a character of a text; 0 where SIXBIT does not have it.
+fn text_code(form: TextForm, character: u8) -> u64 {
+    match form {
+        TextForm::Ascii | TextForm::Asciz => u64::from(character),
+        TextForm::Sixbit => u64::from(sixbit_of(character).unwrap_or(0)),
     }
 }
 
 /// ASCII, ASCIZ and SIXBIT: characters from the left, five of 7 bits or six of 6 bits in a word.
-pub fn text_words(state: &mut Assembly, text: Text, name: Name) {
-    let mut characters = state.marked_text(name);
-    if text == Text::Asciz {
+pub fn text_words(state: &mut Assembly, form: TextForm, name: Name) {
+    let is_sixbit = form == TextForm::Sixbit;
+    let mut characters = state.marked_text(name, is_sixbit);
+    if form == TextForm::Asciz {
         state.add_to(&mut characters, 0);
     }
-    let bits = if text == Text::Sixbit { 6 } else { 7 };
+    let bits = if is_sixbit { 6 } else { 7 };
     let mut filling = Filling::new();
     for character in &characters {
-        let code = text_code(state, text, *character);
+        let code = text_code(form, *character);
         add_byte(state, &mut filling, Some(code), bits);
     }
     if !characters.is_empty() {
@@ -163,24 +170,24 @@ fn add_byte(state: &mut Assembly, filling: &mut Filling, byte: Option<u64>, size
     };
 }
 
-/// A value as a byte of so many bits.
-fn as_byte(state: &mut Assembly, value: Value, size: u64) -> Option<u64> {
+/// A value, which begins at a place, as a byte of so many bits.
+fn as_byte(state: &mut Assembly, value: Value, size: u64, place: Place) -> Option<u64> {
     let most = (1u64 << size.min(36)).saturating_sub(1);
     let Some(number) = state.known(value) else {
         return None;
     };
     if number.unsigned_abs() > most {
-        state.misfit(state.statement, Fault::ByteValue);
+        state.misfit(place, Fault::ByteValue(number, size.min(36) as i64));
         return None;
     }
     Some(number.cast_unsigned() & most)
 }
 
-/// The word with a value added as a byte; one that does not fit the word begins the next.
-pub fn with_byte(state: &mut Assembly, filling: Filling, value: Value) -> Filling {
+/// The word with a value, which begins at a place, added as a byte; one that does not fit the word begins the next.
+pub fn with_byte(state: &mut Assembly, filling: Filling, value: Value, place: Place) -> Filling {
     let mut filling = filling;
     let size = filling.size;
-    let byte = as_byte(state, value, size);
+    let byte = as_byte(state, value, size, place);
     add_byte(state, &mut filling, byte, size);
     filling
 }
@@ -191,10 +198,10 @@ pub fn open_size(state: &mut Assembly) {
     begin_needed(state);
 }
 
-/// The size of bytes, which stands in parentheses.
-pub fn size_of_bytes(state: &mut Assembly, size: i64) -> u64 {
+/// The size of bytes, which begins at a place and stands in parentheses.
+pub fn size_of_bytes(state: &mut Assembly, size: i64, place: Place) -> u64 {
     if size < 1 || size > 36 {
-        state.fail_statement(Fault::ByteSize);
+        state.fail(place, Fault::ByteSize(size));
         return 0;
     }
     state.expect(b')');
@@ -212,9 +219,8 @@ fn digit50(character: u8) -> u64 {
     }
 }
 
-/// Adds the word of RADIX50 or SQUOZE, whose code is read.
-pub fn push_radix50(state: &mut Assembly, code: Option<Value>, what: Name) {
-    let place = state.statement;
+/// Adds the word of RADIX50 or SQUOZE, whose code is read, and begins at a place.
+pub fn push_radix50(state: &mut Assembly, code: Option<Value>, what: Name, place: Place) {
     let code = as_word(state, or_zero(code), place);
     if !state.eat(b',') {
         state.fail_statement(Fault::Needs(what));

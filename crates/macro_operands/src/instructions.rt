@@ -6,6 +6,7 @@ ghost use Rattle.macro_operands.specs.Operands.{added_words};
 use crate::operators::{as_half, as_word, or_zero};
 use macro_faults::Fault;
 use macro_state::{Assembly, Value};
+use macro_stream::Place;
 use macro_values::add_halves;
 use word36::Word;
 
@@ -84,19 +85,27 @@ fn added(one: Option<Word>, other: Option<Word>) -> Option<Word>
     }
 }
 
-/// Two halves as a word.
-pub fn halves(state: &mut Assembly, left: Value, right: Value) -> Option<Word> {
-    let left = as_half(state, left);
-    let right = as_half(state, right);
+/// Two halves as a word, each with where it begins.
+pub fn halves(state: &mut Assembly, left: (Value, Place), right: (Value, Place)) -> Option<Word> {
+    let left = as_half(state, left.0, left.1);
+    let right = as_half(state, right.0, right.1);
     match (left, right) {
         (Some(left), Some(right)) => Some(Word::join(left & 0o777_777, right & 0o777_777)),
         _ => None,
     }
 }
 
-/// The value of two halves.
-pub fn halves_value(state: &mut Assembly, left: Option<Value>, right: Option<Value>) -> Value {
-    let word = halves(state, or_zero(left), or_zero(right));
+/// The value of two halves, each with where it begins.
+pub fn halves_value(
+    state: &mut Assembly,
+    left: (Option<Value>, Place),
+    right: (Option<Value>, Place),
+) -> Value {
+    let word = halves(
+        state,
+        (or_zero(left.0), left.1),
+        (or_zero(right.0), right.1),
+    );
     Value::of_word(word, false)
 }
 
@@ -121,20 +130,20 @@ pub fn is_index_next(state: &mut Assembly) -> bool {
 }
 
 /// The bits of an accumulator.
-fn accumulator_bits(state: &mut Assembly, value: Value) -> Option<Word> {
+fn accumulator_bits(state: &mut Assembly, value: Value, place: Place) -> Option<Word> {
     let Some(number) = state.known(value) else {
         return None;
     };
     if number < 0 || number > 0o17 {
-        state.misfit(state.statement, Fault::Accumulator);
+        state.misfit(place, Fault::Accumulator(number));
         return None;
     }
     Some(Word::low_bits((number as u64) << 23))
 }
 
-/// The fields of an accumulator.
-pub fn accumulator_fields(state: &mut Assembly, value: Value) -> Fields {
-    let bits = accumulator_bits(state, value);
+/// The fields of an accumulator, which begins at a place.
+pub fn accumulator_fields(state: &mut Assembly, value: Value, place: Place) -> Fields {
+    let bits = accumulator_bits(state, value, place);
     Fields::of_word(bits, false)
 }
 
@@ -154,22 +163,21 @@ pub fn need_comma(state: &mut Assembly) {
     }
 }
 
-/// The bits of an index, which is given by the word in parentheses: its halves are swapped.
-pub fn index_bits(state: &mut Assembly, value: Value) -> Option<Word> {
-    let place = state.statement;
+/// The bits of an index, which is given by the word in parentheses, which begins at a place: its halves are swapped.
+pub fn index_bits(state: &mut Assembly, value: Value, place: Place) -> Option<Word> {
     let Some(word) = as_word(state, value, place) else {
         return None;
     };
     if word.right() > 0o17 {
-        state.misfit(place, Fault::Index);
+        state.misfit(place, Fault::Index(word.right()));
         return None;
     }
     Some(word.swapped())
 }
 
-/// The fields of a value as an address, and whether `@` is there.
-pub fn address_fields(state: &mut Assembly, value: Value, indirect: bool) -> Fields {
-    let bits = match as_half(state, value) {
+/// The fields of a value as an address, which begins at a place, and whether `@` is there.
+pub fn address_fields(state: &mut Assembly, value: Value, indirect: bool, place: Place) -> Fields {
+    let bits = match as_half(state, value, place) {
         Some(half) => Some(u64::from(half)),
         None => None,
     };

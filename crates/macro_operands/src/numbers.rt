@@ -7,6 +7,9 @@ use macro_state::{Assembly, Value};
 use macro_stream::Place;
 use macro_values::shift;
 
+/// The most digits of a number that is told.
+const MOST_TOLD: usize = 18;
+
 /// Whether a digit was read that a radix does not have.
 fn has_other_digit(digits: &[u8], radix: u8) -> bool {
     for digit in digits {
@@ -17,10 +20,26 @@ fn has_other_digit(digits: &[u8], radix: u8) -> bool {
     false
 }
 
-/// The value in a radix of the digits that were read.
+/// The fault of a number with a digit that its radix does not have. The number is read in decimal, as it is written.
+fn digits_fault(digits: &[u8], radix: u8) -> Fault {
+    if digits.len() > MOST_TOLD {
+        return Fault::LongDigits(radix);
+    }
+    let mut number = 0i64;
+    for digit in digits {
+        let own = i64::from(digit.saturating_sub(b'0'));
+        number = number.saturating_mul(10).saturating_add(own);
+    }
+    Fault::Digits(number, radix)
+}
+
+/// The value in a radix of the digits that were read, which begin at a place. A letter right behind them is told elsewhere.
 fn digits_value(state: &mut Assembly, radix: u8, place: Place) -> Value {
     if has_other_digit(state.digits.as_slice(), radix) {
-        state.fail(place, Fault::Digit(radix));
+        if !is_letter_next(state) {
+            let fault = digits_fault(state.digits.as_slice(), radix);
+            state.tell(place, fault);
+        }
         return Value::unknown(false);
     }
     let radix = radix.min(10);
@@ -147,14 +166,22 @@ fn is_bits(next: u8, second: Option<u8>) -> bool {
     (next == b'B' || next == b'b') && follows
 }
 
+/// Whether a letter is next that begins no bit number.
+fn is_letter_next(state: &mut Assembly) -> bool {
+    match state.peek() {
+        Some(next) => is_name_character(next) && !is_bits(next, state.second()),
+        None => false,
+    }
+}
+
 /// Goes on behind the `B` of a bit number that is next behind a value; gives its place. None where no bit number is next.
-pub fn take_bits(state: &mut Assembly, start: Place) -> Option<Place> {
+pub fn take_bits(state: &mut Assembly) -> Option<Place> {
     let next = match state.peek() {
         Some(next) if is_name_character(next) => next,
         Some(_) | None => return None,
     };
-    if !is_bits(next, state.second()) {
-        state.fail(start, Fault::Digit(state.number_radix));
+    if is_letter_next(state) {
+        state.fail_here(Fault::ExpectedNumberEnd(next));
         return None;
     }
     let place = state.place();
@@ -165,10 +192,7 @@ pub fn take_bits(state: &mut Assembly, start: Place) -> Option<Place> {
 /// A value with its last bit at this bit. `start` is where the value begins, `place` that of `B`.
 pub fn moved(state: &mut Assembly, value: Value, bit: Value, start: Place, place: Place) -> Value {
     match state.peek() {
-        Some(next) if is_name_character(next) => state.fail(
-            start,
-            Fault::Digit(state.number_radix),
-        ),
+        Some(next) if is_name_character(next) => { state.fail_here(Fault::ExpectedNumberEnd(next)) }
         Some(_) | None => (),
     }
     let placed = value.placed || bit.placed;
@@ -177,7 +201,7 @@ pub fn moved(state: &mut Assembly, value: Value, bit: Value, start: Place, place
         return Value::unknown(placed);
     };
     if bit < 0 || bit > 35 {
-        state.fail(place, Fault::BitNumber);
+        state.tell(place, Fault::BitNumber(bit));
         return Value::unknown(placed);
     }
     let word = match word {
@@ -187,21 +211,16 @@ pub fn moved(state: &mut Assembly, value: Value, bit: Value, start: Place, place
     Value::of_word(word, placed)
 }
 
-/// The code of a quoted character.
-fn code_of(state: &mut Assembly, quote: u8, character: u8, place: Place) -> i64 {
+/// The code of a character between quotes; 0 where SIXBIT does not have it.
+fn code_of(quote: u8, character: u8) -> i64 {
     if quote == b'"' {
         return i64::from(character);
     }
-    match sixbit_of(character) {
-        Some(code) => i64::from(code),
-        None => {
-            state.fail(place, Fault::NoSixbit);
-            0
-        }
-    }
+    i64::from(sixbit_of(character).unwrap_or(0))
 }
 
-/// The next character between quotes; the quote written twice stands for itself. None behind the last.
+/// The next character between quotes, of which the first stands at a place; the quote written twice stands for itself. None
+/// behind the last.
 fn quoted_character(state: &mut Assembly, quote: u8, place: Place) -> Option<u8> {
     let character = match state.peek() {
         None | Some(b'\n') => {
@@ -210,6 +229,9 @@ fn quoted_character(state: &mut Assembly, quote: u8, place: Place) -> Option<u8>
         }
         Some(character) => character,
     };
+    if quote == b'\'' && sixbit_of(character).is_none() {
+        state.tell(state.place(), Fault::NoSixbit(character));
+    }
     state.advance(character);
     if character == quote {
         if state.peek() != Some(quote) {
@@ -235,15 +257,15 @@ fn quoted(state: &mut Assembly, quote: u8, place: Place) -> Value {
             break;
         };
         if count >= most {
-            count = 0;
+            state.fail(place, Fault::LongQuote(quote));
             break;
         }
         count = count.saturating_add(1);
-        let code = code_of(state, quote, character, place);
+        let code = code_of(quote, character);
         value = value.wrapping_mul(step).wrapping_add(code);
     }
     if count == 0 {
-        state.fail(place, Fault::NoQuote(quote));
+        state.fail(place, Fault::EmptyQuote);
     }
     Value::signed(value, false)
 }

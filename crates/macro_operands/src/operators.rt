@@ -34,7 +34,8 @@ pub fn as_word(state: &mut Assembly, value: Value, place: Place) -> Option<Word>
     match state.numbers.word(state.alloc, number) {
         Ok(Some(word)) => Some(word),
         Ok(None) => {
-            state.misfit(place, Fault::NoWord);
+            let small = state.numbers.small(number);
+            state.misfit(place, Fault::NoWord(small));
             None
         }
         Err(_) => {
@@ -45,7 +46,7 @@ pub fn as_word(state: &mut Assembly, value: Value, place: Place) -> Option<Word>
 }
 
 /// A value taken as a half of a word or an address.
-pub fn as_half(state: &mut Assembly, value: Value) -> Option<u32>
+pub fn as_half(state: &mut Assembly, value: Value, place: Place) -> Option<u32>
     ensures unknown { value.number ≡ None → result ≡ None }
     ensures known { (z : ℤ) → known_in state.old.numbers value.number ≡ Some z → state.new.failure ≡ None → IsHalfOf z result }
 {
@@ -55,7 +56,8 @@ pub fn as_half(state: &mut Assembly, value: Value) -> Option<u32>
     match state.numbers.half(state.alloc, number) {
         Ok(Some(half)) => Some(half),
         Ok(None) => {
-            state.misfit(state.statement, Fault::Half);
+            let small = state.numbers.small(number);
+            state.misfit(place, Fault::Half(small));
             None
         }
         Err(_) => {

@@ -3,6 +3,7 @@
 use macro_faults::Fault;
 use macro_names::Name;
 use macro_state::{Assembly, Value};
+use macro_stream::Place;
 
 /// The greatest place.
 const LAST_PLACE: i64 = 0o777_777;
@@ -16,27 +17,35 @@ pub fn begin_needed(state: &mut Assembly) {
     state.deferred = None;
 }
 
-/// The number of a value that the first pass needs.
-pub fn needed(state: &mut Assembly, value: Value, what: Name) -> i64 {
+/// The number of a value that the first pass needs, and that begins at a place.
+pub fn needed(state: &mut Assembly, value: Value, what: Name, place: Place) -> i64 {
     if let Some(number) = state.known(value) {
         return number;
     }
-    if let Some(report) = state.deferred {
+    if state.told {
+        state.fail_told();
+    } else if let Some(report) = state.deferred {
         state.fail(report.place, report.fault);
     } else {
         let fault = match state.missing {
             Some(name) => Fault::Late(what, name),
             None => Fault::LateValue(what),
         };
-        state.fail_statement(fault);
+        state.fail(place, fault);
     }
     0
 }
 
-/// The number of a value that has to be there, and that the first pass needs.
-pub fn required(state: &mut Assembly, value: Option<Value>, what: Name, fault: Fault) -> i64 {
+/// The number of a value that has to be there, that the first pass needs, and that begins at a place.
+pub fn required(
+    state: &mut Assembly,
+    value: Option<Value>,
+    what: Name,
+    fault: Fault,
+    place: Place,
+) -> i64 {
     match value {
-        Some(value) => needed(state, value, what),
+        Some(value) => needed(state, value, what, place),
         None => {
             state.fail_statement(fault);
             0
@@ -44,11 +53,11 @@ pub fn required(state: &mut Assembly, value: Option<Value>, what: Name, fault: F
     }
 }
 
-/// PHASE.
-pub fn set_phase(state: &mut Assembly, value: Option<Value>, what: Name) {
-    let place = required(state, value, what, Fault::Needs(what));
+/// PHASE, whose value begins at `start`.
+pub fn set_phase(state: &mut Assembly, value: Option<Value>, what: Name, start: Place) {
+    let place = required(state, value, what, Fault::Needs(what), start);
     if place < 0 || place > LAST_PLACE {
-        state.fail_statement(Fault::PlaceRange);
+        state.fail(start, Fault::PlaceRange(place));
     }
     if !state.is_failed() {
         state.phase = Some(place.saturating_sub(state.counter));
@@ -74,10 +83,16 @@ fn place_of(number: i64, is_absolute: bool) -> i64 {
     }
 }
 
-/// LOC and RELOC. Both end PHASE, and keep the other counter.
-pub fn set_place(state: &mut Assembly, value: Option<Value>, what: Name, absolute: bool) {
+/// LOC and RELOC, whose value begins at `start`. Both end PHASE, and keep the other counter.
+pub fn set_place(
+    state: &mut Assembly,
+    value: Option<Value>,
+    what: Name,
+    absolute: bool,
+    start: Place,
+) {
     let given = match value {
-        Some(value) => Some(place_of(needed(state, value, what), absolute || value.placed)),
+        Some(value) => Some(place_of(needed(state, value, what, start), absolute || value.placed)),
         None => None,
     };
     if state.is_failed() {
@@ -91,17 +106,17 @@ pub fn set_place(state: &mut Assembly, value: Option<Value>, what: Name, absolut
     };
     let place = given.unwrap_or(kept);
     if given.is_some() && place < 0 {
-        return state.fail_statement(Fault::PlaceRange);
+        return state.fail(start, Fault::PlaceRange(place));
     }
     state.absolute = absolute;
     state.counter = place.min(MOST_PLACE);
 }
 
-/// RADIX.
-pub fn set_radix(state: &mut Assembly, value: Option<Value>, what: Name) {
-    let radix = required(state, value, what, Fault::Needs(what));
+/// RADIX, whose value begins at `start`.
+pub fn set_radix(state: &mut Assembly, value: Option<Value>, what: Name, start: Place) {
+    let radix = required(state, value, what, Fault::Needs(what), start);
     if radix < 2 || radix > 10 {
-        return state.fail_statement(Fault::Radix);
+        return state.fail(start, Fault::Radix(radix));
     }
     if !state.is_failed() {
         state.radix = radix as u8;

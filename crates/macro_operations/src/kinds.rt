@@ -1,17 +1,7 @@
 //! Operations and pseudo-operations.
 
+use mac_text::TextForm;
 use word36::Word;
-
-/// How a text is packed.
-#[derive(Clone, Copy, PartialEq, Eq)]
-pub enum Text {
-    /// Seven bits a character.
-    Ascii,
-    /// Seven bits a character, and a zero behind the last.
-    Asciz,
-    /// Six bits a character.
-    Sixbit,
-}
 
 /// How a number is compared with 0.
 #[derive(Clone, Copy, PartialEq, Eq)]
@@ -62,7 +52,7 @@ pub enum Pseudo {
     /// POINT.
     Point,
     /// ASCII, ASCIZ and SIXBIT.
-    Text(Text),
+    Text(TextForm),
     /// BLOCK.
     Block,
     /// BYTE.

@@ -4,5 +4,5 @@
 mod kinds;
 mod tables;
 
-pub use kinds::{BuiltIn, Operation, Pseudo, Test, Text};
-pub use tables::{built_in, is_refused, of_dialect, of_subset, of_uuosym};
+pub use kinds::{BuiltIn, Operation, Pseudo, Test};
+pub use tables::{DIALECT, SUBSET, built_in, of_dialect, of_subset, of_uuosym};

@@ -1,11 +1,16 @@
-//! The names that are built in, six characters of each.
+//! The names that are built in.
 
-use crate::kinds::{BuiltIn, Operation, Pseudo, Test, Text};
+ghost use Rattle.std.specs.Prelude.{◌≡◌, take};
+ghost use Rattle.macro_operations.specs.Tables.{found_in, known_rows};
+
+use crate::kinds::{BuiltIn, Operation, Pseudo, Test};
 use ka_isa::{Named, named, operation_of_key};
+use mac_text::TextForm;
 use macro_names::{Name, text_of};
 use word36::Word;
 
-static SUBSET: [(&str, Pseudo); 14] = [
+/// The statements of the subset that begin with a name of their own.
+pub static SUBSET: [(&str, Pseudo); 14] = [
     ("LOC", Pseudo::Loc),
     ("END", Pseudo::End),
     ("RADIX", Pseudo::Radix),
@@ -16,39 +21,40 @@ static SUBSET: [(&str, Pseudo); 14] = [
     ("IOWD", Pseudo::Iowd),
     ("EXP", Pseudo::Exp),
     ("POINT", Pseudo::Point),
-    ("ASCII", Pseudo::Text(Text::Ascii)),
-    ("ASCIZ", Pseudo::Text(Text::Asciz)),
-    ("SIXBIT", Pseudo::Text(Text::Sixbit)),
+    ("ASCII", Pseudo::Text(TextForm::Ascii)),
+    ("ASCIZ", Pseudo::Text(TextForm::Asciz)),
+    ("SIXBIT", Pseudo::Text(TextForm::Sixbit)),
     ("BLOCK", Pseudo::Block),
 ];
 
-static DIALECT: [(&str, Pseudo); 61] = [
+/// The statements that this dialect has beyond the subset.
+pub static DIALECT: [(&str, Pseudo); 60] = [
     ("OCT", Pseudo::Oct),
     ("DEC", Pseudo::Dec),
     ("BYTE", Pseudo::Byte),
-    ("RADIX5", Pseudo::Radix50),
+    ("RADIX50", Pseudo::Radix50),
     ("SQUOZE", Pseudo::Radix50),
     ("RELOC", Pseudo::Reloc),
     ("PHASE", Pseudo::Phase),
-    ("DEPHAS", Pseudo::Dephase),
+    ("DEPHASE", Pseudo::Dephase),
     ("LIT", Pseudo::Lit),
     ("VAR", Pseudo::Var),
     ("OPDEF", Pseudo::Opdef),
     ("SYN", Pseudo::Syn),
     ("PURGE", Pseudo::Purge),
-    ("COMMEN", Pseudo::Comment),
+    ("COMMENT", Pseudo::Comment),
     ("REMARK", Pseudo::Remark),
     ("PAGE", Pseudo::Remark),
     ("INTERN", Pseudo::Remark),
     ("ENTRY", Pseudo::Remark),
-    ("SUPPRE", Pseudo::Remark),
-    ("ASUPPR", Pseudo::Remark),
+    ("SUPPRESS", Pseudo::Remark),
+    ("ASUPPRESS", Pseudo::Remark),
     ("NOSYM", Pseudo::Remark),
     ("MLON", Pseudo::Quiet),
     ("MLOFF", Pseudo::Quiet),
     (".CREF", Pseudo::Quiet),
     (".XCREF", Pseudo::Quiet),
-    (".DIREC", Pseudo::Quiet),
+    (".DIRECTIVE", Pseudo::Quiet),
     ("PRINTX", Pseudo::Printx),
     ("LIST", Pseudo::List),
     ("XLIST", Pseudo::Xlist),
@@ -75,17 +81,17 @@ static DIALECT: [(&str, Pseudo); 61] = [
     ("IF1", Pseudo::IfPass(1)),
     ("IF2", Pseudo::IfPass(2)),
     ("EXTERN", Pseudo::Extern),
-    (".REQUE", Pseudo::Extern),
+    (".REQUEST", Pseudo::Extern),
     (".TEXT", Pseudo::Extern),
     (".LINK", Pseudo::Extern),
     ("TWOSEG", Pseudo::Segments),
     ("HISEG", Pseudo::Segments),
     (".PSECT", Pseudo::Segments),
-    ("UNIVER", Pseudo::Universal),
+    ("UNIVERSAL", Pseudo::Universal),
     ("PRGEND", Pseudo::Universal),
-    ("", Pseudo::Quiet),
 ];
 
+/// The operations that this dialect has beyond the subset, with their words.
 static OPERATIONS: [(&str, u64); 13] = [
     ("Z", 0o0),
     ("OR", 0o434000000000),
@@ -102,15 +108,23 @@ static OPERATIONS: [(&str, u64); 13] = [
     ("JCRY1", 0o255100000000),
 ];
 
-/// Names that are refused where the source gives them no meaning of its own.
-static REFUSED: [&str; 16] = [
-    "ARRAY", "INTEGE", "PASS2", "TAPE", ".IF", "CALL", "DIV", "DIVI", "DIVM", "DIVB", "ASHC",
-    "DMOVE", "DMOVEM", "DATAI", "DATAO", "CONO",
-];
+/// How many characters of a name count.
+const CHARACTERS: usize = 6;
 
-fn find(table: &[(&'static str, Pseudo)], name: &str) -> Option<Pseudo> {
+/// The characters of a known name that count.
+fn counted(known: &str) -> &[u8]
+    ensures { result.now ≡ take 6 known.now }
+{
+    let bytes = known.as_bytes();
+    &bytes[..bytes.len().min(CHARACTERS)]
+}
+
+/// What a table says of a name, of which the characters that count are given, in upper case.
+fn find(table: &[(&'static str, Pseudo)], name: &[u8]) -> Option<Pseudo>
+    ensures { result ≡ found_in (known_rows table.now) name.now }
+{
     for (known, pseudo) in table {
-        if *known == name && !name.is_empty() {
+        if counted(known) == name {
             return Some(*pseudo);
         }
     }
@@ -136,30 +150,36 @@ pub fn of_subset(name: Name) -> Option<BuiltIn> {
     if let Some(named) = named(text) {
         return operation(named);
     }
-    match find(&SUBSET, text) {
+    match find(&SUBSET, characters.as_slice()) {
         Some(pseudo) => Some(BuiltIn::Pseudo(pseudo)),
         None => None,
     }
 }
 
-/// What the dialect knows by this name beyond the subset.
-pub fn of_dialect(name: Name) -> Option<BuiltIn> {
-    let characters = text_of(name);
-    let text = std::str::from_utf8(characters.as_slice()).unwrap_or("");
-    if let Some(pseudo) = find(&DIALECT, text) {
-        return Some(BuiltIn::Pseudo(pseudo));
-    }
-    for (known, word) in &OPERATIONS {
-        if *known == text {
-            let operation = Operation {
-                word: Some(Word::low_bits(*word)),
-                accumulator: word / 0o1_000_000_000 != 0o255,
-                address: true,
-            };
-            return Some(BuiltIn::Operation(operation));
+/// The word of an operation that the dialect has beyond the subset.
+fn word_in(operations: &[(&'static str, u64)], name: &[u8]) -> Option<u64> {
+    for (known, word) in operations {
+        if known.as_bytes() == name {
+            return Some(*word);
         }
     }
     None
+}
+
+/// What the dialect knows by this name beyond the subset.
+pub fn of_dialect(name: Name) -> Option<BuiltIn> {
+    let characters = text_of(name);
+    if let Some(pseudo) = find(&DIALECT, characters.as_slice()) {
+        return Some(BuiltIn::Pseudo(pseudo));
+    }
+    match word_in(&OPERATIONS, characters.as_slice()) {
+        Some(word) => Some(BuiltIn::Operation(Operation {
+            word: Some(Word::low_bits(word)),
+            accumulator: word / 0o1_000_000_000 != 0o255,
+            address: true,
+        })),
+        None => None,
+    }
 }
 
 /// What a name is without a meaning that the source gives it.
@@ -168,18 +188,6 @@ pub fn built_in(name: Name) -> Option<BuiltIn> {
         Some(built_in) => Some(built_in),
         None => of_dialect(name),
     }
-}
-
-/// Whether a name is refused where the source gives it no meaning.
-pub fn is_refused(name: Name) -> bool {
-    let characters = text_of(name);
-    let text = std::str::from_utf8(characters.as_slice()).unwrap_or("");
-    for known in &REFUSED {
-        if *known == text {
-            return true;
-        }
-    }
-    false
 }
 
 /// What SEARCH UUOSYM defines.

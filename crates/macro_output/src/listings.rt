@@ -191,14 +191,14 @@ fn parted_rows(listing: &Listing, alloc: Global) -> Result<(Vec<Row>, Vec<Row>),
 }
 
 /// What is wrong, in the order of its places.
-fn remarks_of(state: &Assembly) -> Result<Vec<Remark>, AllocError>
+fn remarks_of(state: &Assembly, source: &[u8]) -> Result<Vec<Remark>, AllocError>
     ensures { IfOk result (λ remarks. AreRemarks state.now.faults.items (map remark_text remarks.items)) }
 {
     let faults = sorted_faults(state.alloc, state.faults.as_slice())?;
     let mut remarks = Vec::new(state.alloc);
     for report in &faults {
         let mut text = Vec::new(state.alloc);
-        push_report(&mut text, report, state.stream.around())?;
+        push_report(&mut text, report, state.stream.around(), source)?;
         remarks.push(Remark {
             line: report.place.line,
             text,
@@ -223,7 +223,7 @@ pub fn push_listing(out: &mut Vec<u8>, state: &Assembly, source: &[u8]) -> Resul
         × (out.new.items ≡ out.old.items ++ listing_text state.now.listing source.now remarks)) }
 {
     let (rows, expanded_rows) = parted_rows(&state.listing, state.alloc)?;
-    let remarks = remarks_of(state)?;
+    let remarks = remarks_of(state, source)?;
     push_lines(
         out,
         &state.listing,

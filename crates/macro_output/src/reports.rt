@@ -3,7 +3,7 @@ ghost use Rattle.std.specs.Prelude.{IfOk};
 ghost use Rattle.macro_output.specs.Listings.{InOrder};
 
 use macro_faults::{Report, push_report};
-use macro_stream::Around;
+use macro_state::Assembly;
 use script_io::push_decimal;
 use std::alloc::{AllocError, Global};
 
@@ -40,15 +40,9 @@ pub fn sorted_faults(alloc: Global, faults: &[Report]) -> Result<Vec<Report>, Al
     Ok(sorted)
 }
 
-/// Adds the faults by line and column, at most twenty of them, and how many more there are; `outer` are the texts around
-/// places that the stream kept.
-pub fn push_faults(
-    out: &mut Vec<u8>,
-    alloc: Global,
-    faults: &[Report],
-    outer: &[Around],
-) -> Result<(), AllocError> {
-    let sorted = sorted_faults(alloc, faults)?;
+/// Adds the faults of a source by line and column, at most twenty of them, and how many more there are.
+pub fn push_faults(out: &mut Vec<u8>, state: &Assembly, source: &[u8]) -> Result<(), AllocError> {
+    let sorted = sorted_faults(state.alloc, state.faults.as_slice())?;
     let mut written = 0usize;
     for report in &sorted {
         if written >= MOST_WRITTEN {
@@ -57,7 +51,7 @@ pub fn push_faults(
             out.extend_from_slice(b" more errors\n")?;
             return Ok(());
         }
-        push_report(out, report, outer)?;
+        push_report(out, report, state.stream.around(), source)?;
         written += 1;
     }
     Ok(())

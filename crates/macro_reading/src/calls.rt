@@ -73,9 +73,18 @@ fn read_default(state: &mut Assembly, what: Name, of: Name) {
     }
 }
 
-/// Adds a dummy with the name that is next. A name is created where it begins with this character, `%`.
-fn read_dummy(state: &mut Assembly, next: u8) {
+/// Whether a macro has a dummy of this name.
+fn has_dummy(dummies: &[Dummy], name: Name) -> bool {
+    dummies.iter().any(|dummy| dummy.name == name)
+}
+
+/// Adds a dummy with the name that is next, to those from `first` on. A name is created where it begins with this character, `%`.
+fn read_dummy(state: &mut Assembly, next: u8, first: usize) {
+    let place = state.place();
     let name = state.name();
+    if has_dummy(state.dummies.as_slice().get(first..).unwrap_or(&[]), name) {
+        state.tell(place, Fault::TwoDummies(name));
+    }
     let done = state.dummies.push(Dummy {
         name,
         default: None,
@@ -97,7 +106,7 @@ fn read_dummies(state: &mut Assembly, what: Name, of: Name) {
                 if !state.is_name_next() {
                     break;
                 }
-                read_dummy(state, next);
+                read_dummy(state, next, first);
             }
             None => break,
         }
@@ -301,11 +310,11 @@ pub fn end_digits(
     start: Place,
     statement: Place,
 ) -> Option<Range> {
-    let number = needed(state, value, name);
+    let number = needed(state, value, name, start);
     state.statement = statement;
     state.blanks();
     let Some(word) = word_of(number) else {
-        state.fail(start, Fault::NoWord);
+        state.fail(start, Fault::NoWord(Some(number)));
         return None;
     };
     let stored = state.stream.store_digits(word.number(), state.radix);

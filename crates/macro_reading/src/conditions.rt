@@ -1,5 +1,6 @@
 //! Conditions and repetitions.
 
+use crate::searches::is_searched;
 use macro_faults::Fault;
 use macro_names::{Name, is_blank};
 use macro_operands::required;
@@ -67,9 +68,9 @@ pub fn with_number(
     value: Option<Value>,
     place: Place,
 ) {
-    let number = required(state, value, name, Fault::Needs(name));
+    let number = required(state, value, name, Fault::Needs(name), place);
     if word_of(number).is_none() {
-        state.fail(place, Fault::NoWord);
+        state.fail(place, Fault::NoWord(Some(number)));
     }
     if let Pseudo::If(test) = pseudo {
         text_if(state, holds(test, number), name);
@@ -90,7 +91,7 @@ fn end_text(state: &mut Assembly) {
 pub fn plain_condition(state: &mut Assembly, pseudo: Pseudo, name: Name) {
     match pseudo {
         Pseudo::Comment => {
-            let _text = state.marked_text(name);
+            let _text = state.marked_text(name, false);
         }
         Pseudo::Irp(by_character) => elements_of(state, name, by_character),
         Pseudo::IfDefined(wanted) => {
@@ -115,7 +116,7 @@ pub fn plain_condition(state: &mut Assembly, pseudo: Pseudo, name: Name) {
 fn is_defined(state: &mut Assembly, what: Name) -> bool {
     let name = state.needed_name(what);
     state.note_use(name, state.statement.line);
-    state.is_defined(name)
+    state.is_defined(name) || state.uuosym && is_searched(name)
 }
 
 /// Whether the two texts that are next are the same.

@@ -6,6 +6,7 @@
 mod calls;
 mod conditions;
 mod pseudo;
+mod searches;
 mod statements;
 mod terms;
 

@@ -1,6 +1,8 @@
 //! Pseudo-operations that give no words.
 
 use crate::calls::define;
+use crate::searches::{linking, search, segments};
+use crate::terms::unknown_name;
 use macro_faults::Fault;
 use macro_names::{Name, is_blank};
 use macro_operands::{as_word, required, set_phase, set_place};
@@ -8,6 +10,7 @@ use macro_operations::{Pseudo, built_in};
 use macro_state::{Assembly, Value};
 use macro_stream::Place;
 use macro_symbols::Meaning;
+use script_io::push_escaped;
 use word36::Word;
 
 /// Carries out a pseudo-operation that has no expression.
@@ -23,8 +26,8 @@ pub fn plain_directive(state: &mut Assembly, pseudo: Pseudo, name: Name) {
         Pseudo::Purge => purge(state, name),
         Pseudo::Printx => printx(state),
         Pseudo::Define => define(state),
-        Pseudo::Extern => state.fail_statement(Fault::Linking(name, false)),
-        Pseudo::Segments => state.fail_statement(Fault::Segments(name)),
+        Pseudo::Extern => linking(state, name),
+        Pseudo::Segments => segments(state, name),
         Pseudo::Universal => state.fail_statement(Fault::Universal(name)),
         other => bare_directive(state, other, name),
     }
@@ -66,31 +69,41 @@ pub fn takes_value(pseudo: Pseudo) -> bool {
     }
 }
 
-/// Carries out a pseudo-operation whose expression is read.
+/// Carries out a pseudo-operation whose expression is read, and begins at `start`.
 pub fn value_directive(
     state: &mut Assembly,
     pseudo: Pseudo,
     name: Name,
     value: Option<Value>,
     in_literal: bool,
+    start: Place,
 ) {
     match pseudo {
-        Pseudo::Loc => set_place(state, value, name, true),
-        Pseudo::Reloc => set_place(state, value, name, false),
-        Pseudo::Phase => set_phase(state, value, name),
-        Pseudo::Block => keep_places(state, value, name, in_literal),
-        _ => end(state, value),
+        Pseudo::Loc => set_place(state, value, name, true, start),
+        Pseudo::Reloc => set_place(state, value, name, false, start),
+        Pseudo::Phase => set_phase(state, value, name, start),
+        Pseudo::Block => keep_places(state, value, name, in_literal, start),
+        _ => end(state, value, start),
     }
 }
 
-/// BLOCK: keeps places, in a literal as words of 0.
-fn keep_places(state: &mut Assembly, value: Option<Value>, name: Name, in_literal: bool) {
-    let number = required(state, value, name, Fault::Needs(name));
+/// BLOCK, whose value begins at `start`: keeps places, in a literal as words of 0.
+fn keep_places(
+    state: &mut Assembly,
+    value: Option<Value>,
+    name: Name,
+    in_literal: bool,
+    start: Place,
+) {
+    let number = required(state, value, name, Fault::Needs(name), start);
+    if number < 0 {
+        state.fail(start, Fault::BlockSize(number));
+    }
     if !in_literal {
         return state.emit_space(number);
     }
     if number <= 0 || number > 0o1_000_000 {
-        return state.fail_statement(Fault::BlockInLiteral);
+        return state.fail(start, Fault::BlockInLiteral(number));
     }
     for _ in 0..number {
         state.push_word(Some(Word::new(0)));
@@ -108,16 +121,16 @@ fn need_line_end(state: &mut Assembly) -> bool {
     }
 }
 
-/// Sets the start of the program.
-fn set_start(state: &mut Assembly, number: i64) {
+/// Sets the start of the program, whose value begins at a place.
+fn set_start(state: &mut Assembly, number: i64, place: Place) {
     if number < 0 || number > 0o777_777 {
-        return state.fail_statement(Fault::Start);
+        return state.tell(place, Fault::Start(number));
     }
     state.start = number as u32;
 }
 
-/// END: the start, then variables and literals.
-fn end(state: &mut Assembly, start: Option<Value>) {
+/// END: the start, whose value begins at a place, then variables and literals.
+fn end(state: &mut Assembly, start: Option<Value>, place: Place) {
     if !need_line_end(state) {
         return;
     }
@@ -128,7 +141,7 @@ fn end(state: &mut Assembly, start: Option<Value>) {
     state.skip_to(false);
     if let Some(value) = start {
         if let Some(number) = state.known(value) {
-            set_start(state, number);
+            set_start(state, number, place);
         }
     }
     if !state.is_failed() {
@@ -147,19 +160,20 @@ pub fn operation_name(state: &mut Assembly, what: Name) -> Name {
     name
 }
 
-/// OPDEF, whose `[` is read: a word is the operation. `place` is that of the statement.
+/// OPDEF, whose `[` is read: a word, which begins at `start`, is the operation. `place` is that of the statement.
 pub fn define_operation(
     state: &mut Assembly,
     value: Option<Value>,
     name: Name,
     what: Name,
     place: Place,
+    start: Place,
 ) {
     if value.is_none() {
         state.fail(place, Fault::Needs(what));
     }
     state.statement = place;
-    let word = as_word(state, value.unwrap_or(Value::zero()), place);
+    let word = as_word(state, value.unwrap_or(Value::zero()), start);
     state.expect(b']');
     state.note_definition(name, place.line);
     let number = match word {
@@ -169,25 +183,10 @@ pub fn define_operation(
     state.put_meaning(name, Meaning::Opdef(number))
 }
 
-/// SEARCH: of its names only UUOSYM says something.
-fn search(state: &mut Assembly) {
-    for _ in 0..u64::MAX {
-        let next = state.blanks();
-        if state.is_name_next() {
-            if state.name() == Name::of(b"UUOSYM") {
-                state.uuosym = true;
-            }
-        } else {
-            match next {
-                None | Some(b'\n' | b';') => break,
-                Some(other) => state.advance(other),
-            }
-        }
-    }
-}
-
 /// SYN: the second name is what the first is.
 fn syn(state: &mut Assembly, what: Name) {
+    state.blanks();
+    let of_place = state.place();
     let of = state.needed_name(what);
     let place = state.statement;
     if !state.eat(b',') {
@@ -205,13 +204,13 @@ fn syn(state: &mut Assembly, what: Name) {
     if built_in(of).is_some() {
         return state.put_meaning(name, Meaning::Synonym(of));
     }
-    same_symbol(state, of, name, place)
+    same_symbol(state, of, name, of_place)
 }
 
-/// SYN of a symbol: the second name has its value.
+/// SYN of a symbol, which stands at a place: the second name has its value.
 fn same_symbol(state: &mut Assembly, of: Name, name: Name, place: Place) {
     match state.symbols.get(of) {
-        Some(definition) if definition.multiple => state.fail(place, Fault::UseOfDuplicate(of)),
+        Some(definition) if definition.multiple => state.tell(place, Fault::UseOfDuplicate(of)),
         Some(definition) if definition.value.is_some() || state.pass == 1 => state.assign(
             name,
             place,
@@ -222,7 +221,7 @@ fn same_symbol(state: &mut Assembly, of: Name, name: Name, place: Place) {
             if state.pass == 1 {
                 state.assign(name, place, None, false);
             } else {
-                state.fail(place, Fault::NotDefined(of));
+                state.tell(place, unknown_name(state, of, false));
             }
         }
     }
@@ -260,7 +259,8 @@ fn type_character(state: &mut Assembly, character: u8) {
     state.kept(done);
 }
 
-/// PRINTX: the rest of the line, without blanks around it.
+/// PRINTX: the rest of the line, without blanks around it. A character that does not print is typed as a backslash and three
+/// octal digits, so that no source speaks to a terminal.
 fn printx(state: &mut Assembly) {
     state.blanks();
     let mut kept = state.typed.len();
@@ -268,7 +268,12 @@ fn printx(state: &mut Assembly) {
         match state.peek() {
             None | Some(b'\n') => break,
             Some(character) => {
-                type_character(state, character);
+                if character > 31 && character < 127 || character == b'\t' {
+                    type_character(state, character);
+                } else {
+                    let done = push_escaped(&mut state.typed, character).is_ok();
+                    state.kept(done);
+                }
                 if !is_blank(character) {
                     kept = state.typed.len();
                 }

@@ -136,7 +136,7 @@ fn label(state: &mut Assembly, name: Name, place: Place, in_literal: bool) {
     }
     let value = state.phased();
     if value < 0 || value > 0o777_777 {
-        return state.fail(place, Fault::PlaceRange);
+        return state.fail(place, Fault::PlaceRange(value));
     }
     state.define_label(name, place, Some(value));
 }
@@ -164,8 +164,7 @@ fn assign_word(state: &mut Assembly, name: Name, place: Place, value: Value, sta
     state.assign(name, place, number, value.placed);
 }
 
-/// Assigns a value, which begins at `start`. In pass 2 a wrong value defines the name as 0, so that its uses are not reported
-/// too.
+/// Assigns a value, which begins at `start`. A wrong value defines the name as 0, so that its uses are not told too.
 pub fn assign_value(
     state: &mut Assembly,
     name: Name,
@@ -177,7 +176,7 @@ pub fn assign_value(
         Some(value) => assign_word(state, name, place, value, start),
         None => state.unexpected(),
     }
-    if state.is_failed() {
+    if state.told || state.pass == 2 && state.is_failed() {
         state.assign_wrong(name, place);
     }
 }

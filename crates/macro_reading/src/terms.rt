@@ -1,10 +1,12 @@
 //! Terms: names, brackets, literals.
 
+use crate::searches::{is_searched, need_external, searched_value};
 use crate::statements::is_label_use;
+use left_out::left_out;
 use macro_faults::Fault;
-use macro_names::{Name, is_name_character};
+use macro_names::{Name, is_name_character, text_of};
 use macro_operands::or_zero;
-use macro_operations::{BuiltIn, Operation, Pseudo, built_in, is_refused, of_uuosym};
+use macro_operations::{BuiltIn, Operation, Pseudo, built_in, of_uuosym};
 use macro_state::{Assembly, Value};
 use macro_stream::{Limit, Place};
 use macro_symbols::{Definition, Meaning};
@@ -13,7 +15,7 @@ use word36::Word;
 /// The value of a symbol.
 fn symbol_value(state: &mut Assembly, name: Name, definition: Definition, place: Place) -> Value {
     if definition.multiple {
-        state.fail(place, Fault::UseOfDuplicate(name));
+        state.tell(place, Fault::UseOfDuplicate(name));
     }
     match definition.value {
         Some(value) => Value::signed(value, definition.placed),
@@ -24,10 +26,26 @@ fn symbol_value(state: &mut Assembly, name: Name, definition: Definition, place:
     }
 }
 
-/// A name without a value: the second pass reports it.
+/// What is wrong with a name that stands for nothing here; whether it stands as an operation.
+pub fn unknown_name(state: &Assembly, name: Name, is_operation: bool) -> Fault {
+    if !state.uuosym && (of_uuosym(name).is_some() || is_searched(name)) {
+        return Fault::NotSearched(name);
+    }
+    if let Some(reason) = left_out(text_of(name).as_slice()) {
+        return Fault::LeftOut(name, reason, is_operation);
+    }
+    if is_operation {
+        Fault::Refused(name)
+    } else {
+        Fault::NotDefined(name)
+    }
+}
+
+/// A name without a value: the second pass tells of it, and reads on.
 fn not_known(state: &mut Assembly, name: Name, place: Place) {
     if state.pass == 2 {
-        state.fail(place, Fault::NotDefined(name));
+        let fault = unknown_name(state, name, false);
+        state.tell(place, fault);
     } else if !state.is_failed() {
         state.missing = Some(name);
     }
@@ -47,6 +65,9 @@ fn other_value(state: &mut Assembly, name: Name, place: Place) -> Value {
     if state.uuosym {
         if let Some(number) = of_uuosym(name) {
             return Value::signed(number.cast_signed(), false);
+        }
+        if let Some(value) = searched_value(state, name, place) {
+            return value;
         }
     }
     not_known(state, name, place);
@@ -131,7 +152,7 @@ fn variable_mark(state: &mut Assembly, name: Name, place: Place) {
     state.advance(b'#');
     if state.peek() == Some(b'#') {
         state.advance(b'#');
-        return state.fail(place, Fault::Linking(name, true));
+        return need_external(state, name, place, true);
     }
     state.use_variable(name)
 }
@@ -245,13 +266,13 @@ fn begins_operand(next: Option<u8>, second: Option<u8>) -> bool {
     }
 }
 
-/// Holds a name that begins a value. Refuses one with operands that is no operation, and one that is refused by name.
+/// Holds a name that begins a value. Refuses one with operands, which is no operation.
 fn hold_name(state: &mut Assembly, name: Name, place: Place) {
     let next = state.blanks();
     let second = state.second();
-    let refused = is_refused(name) && !state.is_source_symbol(name);
-    if refused || begins_operand(next, second) {
-        state.fail(place, Fault::Refused(name));
+    if begins_operand(next, second) {
+        let fault = unknown_name(state, name, true);
+        state.fail(place, fault);
     }
     state.pending_label = Some((name, place));
 }
@@ -321,6 +342,9 @@ pub fn word_count(state: &Assembly) -> usize {
     state.words.len()
 }
 
+/// The greatest number of words that is told.
+const LAST_COUNT: usize = 0o1_000_000;
+
 /// The one word that a pseudo-operation in brackets gave behind so many words.
 pub fn single_word(state: &mut Assembly, first: usize, name: Name, place: Place) -> Value {
     let count = state.words.len().saturating_sub(first);
@@ -328,7 +352,8 @@ pub fn single_word(state: &mut Assembly, first: usize, name: Name, place: Place)
     match word {
         Some(word) if count == 1 => Value::of_word(word, false),
         Some(_) | None => {
-            state.fail(place, Fault::Needs(name));
+            let words = count.min(LAST_COUNT) as u32;
+            state.fail(place, Fault::NotOneWord(name, words));
             Value::unknown(false)
         }
     }

@@ -78,7 +78,7 @@ impl Assembly {
             ..before
         };
         self.put_definition(name, definition);
-        self.fail(place, fault);
+        self.tell(place, fault);
     }
 
     /// Assigns a value to a symbol.
@@ -112,13 +112,13 @@ impl Assembly {
         }
     }
 
-    /// Gives 0 to a name that has no value, where the value for it was wrong in the second pass.
+    /// Gives 0 to a name that has no value, where the value for it was wrong: so its uses are not told too.
     pub fn assign_wrong(&mut self, name: Name, place: Place) {
         let has_value = match self.symbols.get(name) {
             Some(definition) => definition.value.is_some(),
             None => false,
         };
-        if self.pass == 2 && !has_value {
+        if !has_value {
             let failure = self.failure;
             self.failure = None;
             self.assign(name, place, Some(0), false);

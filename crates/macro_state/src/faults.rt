@@ -1,6 +1,7 @@
 //! What is reported of a source.
 
-ghost use Rattle.std.specs.Prelude.{◌≡◌, ◌↔◌, None, IsSome, IsTrue};
+ghost use Rattle.std.specs.Prelude.{◌≡◌, ◌↔◌, None, Some, IsSome, IsTrue, OnOk};
+ghost use Rattle.macro_state.specs.Faults.{is_told_at};
 
 use crate::state::Assembly;
 use macro_faults::{Failure, Fault, Report};
@@ -8,7 +9,9 @@ use macro_stream::{Limit, Place, Stop};
 use std::alloc::AllocError;
 
 /// Whether a fault of this place is reported already.
-fn is_reported(faults: &[Report], place: Place) -> bool {
+fn is_reported(faults: &[Report], place: Place) -> bool
+    ensures { result ≡ is_told_at faults.now place }
+{
     for report in faults {
         if report.place.line == place.line && report.place.column == place.column {
             return true;
@@ -40,12 +43,19 @@ impl Assembly {
     pub fn out_of_memory(&mut self)
         ensures failed { self.new.failure ≡ None → ⊥ }
         ensures numbers { self.new.numbers ≡ self.old.numbers }
+        ensures faults { self.new.faults ≡ self.old.faults }
+        ensures marked { self.new.told ≡ self.old.told }
     {
         self.failure = Some(Failure::Memory);
     }
 
     /// Takes note of whether there was memory.
-    pub fn kept(&mut self, done: bool) {
+    pub fn kept(&mut self, done: bool)
+        ensures memory { self.new.failure ≡ None → IsTrue done × (self.old.failure ≡ None) }
+        ensures marked { self.new.told ≡ self.old.told }
+        ensures numbers { self.new.numbers ≡ self.old.numbers }
+        ensures faults { self.new.faults ≡ self.old.faults }
+    {
         if !done {
             self.out_of_memory()
         }
@@ -96,33 +106,67 @@ impl Assembly {
         }
     }
 
+    /// The statement is not carried out, for a fault of it that is told.
+    pub fn fail_told(&mut self)
+        ensures failed { self.new.failure ≡ None → ⊥ }
+        ensures numbers { self.new.numbers ≡ self.old.numbers }
+    {
+        self.give_up(Failure::Told)
+    }
+
+    /// Tells of a fault behind which the statement is read on, so that what else is wrong with it is told too.
+    pub fn tell(&mut self, place: Place, fault: Fault)
+        ensures told { self.new.failure ≡ None → IsTrue (is_told_at self.new.faults.items place) }
+        ensures marked { self.new.failure ≡ None → IsTrue self.new.told }
+        ensures failed { self.new.failure ≡ None → self.old.failure ≡ None }
+        ensures numbers { self.new.numbers ≡ self.old.numbers }
+    {
+        if self.is_failed() {
+            return;
+        }
+        self.told = true;
+        let done = self.report(Report { place, fault }).is_ok();
+        self.kept(done);
+    }
+
     /// A value that does not fit. In the first pass it is one that is not known, since names may still change.
     pub fn misfit(&mut self, place: Place, fault: Fault)
-        ensures reported { self.old.pass ≡ 2 → self.new.failure ≡ None → ⊥ }
+        ensures told { self.old.pass ≡ 2 → self.new.failure ≡ None → IsTrue (is_told_at self.new.faults.items place) }
+        ensures marked { self.old.pass ≡ 2 → self.new.failure ≡ None → IsTrue self.new.told }
+        ensures deferred { (self.old.pass ≡ 2 → ⊥) → self.new.failure ≡ None → self.new.deferred ≡ Some (record { place = place; fault = fault }) }
+        ensures kept { (self.old.pass ≡ 2 → ⊥) → self.new.faults ≡ self.old.faults }
         ensures failed { self.new.failure ≡ None → self.old.failure ≡ None }
         ensures numbers { self.new.numbers ≡ self.old.numbers }
     {
         if self.pass == 2 {
-            self.fail(place, fault)
+            self.tell(place, fault)
         } else if self.failure.is_none() {
             self.deferred = Some(Report { place, fault });
         }
     }
 
     /// Keeps a report; one for a place.
-    pub fn report(&mut self, report: Report) -> Result<(), AllocError> {
+    pub fn report(&mut self, report: Report) -> Result<(), AllocError>
+        ensures told { OnOk result (IsTrue (is_told_at self.new.faults.items report.place)) }
+        ensures marked { self.new.told ≡ self.old.told }
+        ensures failure { self.new.failure ≡ self.old.failure }
+        ensures numbers { self.new.numbers ≡ self.old.numbers }
+    {
         if report.fault.is_limit() {
             self.stopped = true;
         }
         if is_reported(self.faults.as_slice(), report.place) {
             return Ok(());
         }
-        let mut report = report;
+        let mut fault = report.fault;
         if self.faults.len() >= Limit::Errors.most() as usize {
             self.stopped = true;
-            report.fault = Fault::Limit(Limit::Errors);
+            fault = Fault::Limit(Limit::Errors);
         }
-        self.faults.push(report)?;
+        self.faults.push(Report {
+            place: report.place,
+            fault,
+        })?;
         Ok(())
     }
 

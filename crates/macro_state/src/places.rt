@@ -19,27 +19,32 @@ impl Assembly {
     /// Puts a word at the place that is next.
     pub fn emit(&mut self, word: Option<Word>, listed: bool) {
         if self.counter < 0 || self.counter > 0o777_777 {
-            return self.fail_statement(Fault::PlaceRange);
+            return self.fail_statement(Fault::PlaceRange(self.counter));
         }
         if self.pass == 2 {
-            self.put(self.counter as u32, word.unwrap_or(Word::new(0)), listed);
+            self.put(self.counter as u32, word, listed);
         }
         if !self.is_failed() {
             self.counter = self.counter.saturating_add(1);
         }
     }
 
-    fn put(&mut self, place: u32, word: Word, listed: bool) {
+    /// Puts a word at a place. One that is not known, for a fault that is told, is 0 there, and its row has the place alone.
+    fn put(&mut self, place: u32, word: Option<Word>, listed: bool) {
         if self.image.get(place).is_some() {
             self.fail_statement(Fault::TwoWords(place));
         }
         if self.is_failed() {
             return;
         }
-        let done = self.image.put(place, word.number()).is_ok();
+        let number = match &word {
+            Some(word) => word.number(),
+            None => 0,
+        };
+        let done = self.image.put(place, number).is_ok();
         self.kept(done);
         if listed {
-            self.list_row(Some(place), Some(word));
+            self.list_row(Some(place), word);
         }
     }
 
@@ -64,10 +69,9 @@ impl Assembly {
 
     /// Keeps places, whose words are 0.
     pub fn emit_space(&mut self, count: i64) {
-        if count < 0 {
-            self.fail_statement(Fault::BlockSize);
-        } else if self.counter.saturating_add(count) > PLACES as i64 {
-            self.fail_statement(Fault::PlaceRange);
+        let end = self.counter.saturating_add(count);
+        if end > PLACES as i64 {
+            self.fail_statement(Fault::PlaceRange(end.saturating_sub(1)));
         }
         if self.is_failed() {
             return;

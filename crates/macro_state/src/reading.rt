@@ -4,7 +4,7 @@ ghost use Rattle.std.specs.Prelude.{◌≡◌, None, IsSome};
 
 use crate::state::Assembly;
 use macro_faults::Fault;
-use macro_names::{Name, NameReader, is_blank, is_digit, is_name_character};
+use macro_names::{Name, NameReader, is_blank, is_digit, is_name_character, sixbit_of};
 use macro_stream::{Arguments, Place, Range, Stop};
 
 impl Assembly {
@@ -231,8 +231,9 @@ impl Assembly {
         self.kept(done);
     }
 
-    /// The characters up to the second of the mark that is next behind blanks, with CR and LF where a line ends.
-    pub fn marked_text(&mut self, name: Name) -> Vec<u8> {
+    /// The characters up to the second of the mark that is next behind blanks, with CR and LF where a line ends. Where they are for
+    /// SIXBIT, those that it does not have are told.
+    pub fn marked_text(&mut self, name: Name, is_sixbit: bool) -> Vec<u8> {
         let mut text = Vec::new(self.alloc);
         let mark = match self.blanks() {
             None | Some(b'\n') => {
@@ -241,11 +242,15 @@ impl Assembly {
             }
             Some(mark) => mark,
         };
+        let place = self.place();
         self.advance(mark);
         for _ in 0..u64::MAX {
             match self.peek() {
                 None => break,
                 Some(character) => {
+                    if is_sixbit && character != mark && sixbit_of(character).is_none() {
+                        self.tell(self.place(), Fault::NoSixbit(character));
+                    }
                     self.advance(character);
                     if character == mark {
                         return text;
@@ -257,7 +262,7 @@ impl Assembly {
                 }
             }
         }
-        self.fail_statement(Fault::NoText(mark, name));
+        self.fail(place, Fault::NoText(mark, name));
         text
     }
 

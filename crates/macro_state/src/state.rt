@@ -86,6 +86,8 @@ pub struct Assembly {
     pub deferred: Option<Report>,
     /// Whether a text in brackets is still to come in the statement.
     pub text_due: bool,
+    /// Whether a fault of the statement is told, and the statement is read on.
+    pub told: bool,
     /// Why the statement is not carried out. Where there is a reason, nothing more is read, and nothing is done.
     pub failure: Option<Failure>,
     /// The numbers of the statement.
@@ -118,6 +120,10 @@ pub struct Assembly {
     pub faults: Vec<Report>,
     /// What has another place in the second pass.
     pub moved: Vec<Report>,
+    /// The files of SEARCH that are not here.
+    pub absent_files: Vec<Report>,
+    /// Whether an END was begun, whatever stands behind it.
+    pub end_begun: bool,
     /// Whether END was read.
     pub ended: bool,
     /// Whether a limit was reached.
@@ -158,6 +164,7 @@ impl Assembly {
             missing: None,
             deferred: None,
             text_due: false,
+            told: false,
             failure: None,
             numbers: Numbers::new(alloc),
             digits: Vec::new(alloc),
@@ -174,6 +181,8 @@ impl Assembly {
             image: PlacedWords::new(alloc),
             faults: Vec::new(alloc),
             moved: Vec::new(alloc),
+            absent_files: Vec::new(alloc),
+            end_begun: false,
             ended: false,
             stopped: false,
             start: 0o140,
@@ -199,6 +208,7 @@ impl Assembly {
         self.variables.clear();
         self.created = 0;
         self.ended = false;
+        self.end_begun = false;
         self.start = 0o140;
         self.forget_statement();
     }
@@ -225,6 +235,7 @@ impl Assembly {
 
     /// Forgets the words and the numbers of the statement before.
     pub fn forget_words(&mut self) {
+        self.told = false;
         self.numbers.clear();
         self.signs.clear();
         self.given.clear();

@@ -4,4 +4,5 @@ pub mod DepositedWords
 pub mod AwakeJobs
 pub mod Running
 mod Copying
+mod Calling
 mod Telling

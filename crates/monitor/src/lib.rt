@@ -5,6 +5,7 @@ mod copies;
 mod cores;
 mod deposits;
 mod login;
+mod next;
 mod parts;
 mod rounds;
 mod runner;

@@ -14,6 +14,7 @@ ghost use Rattle.machine.specs.Deposits.{deposited, started_at};
 ghost use Rattle.machine.specs.Images.{blocks_for};
 ghost use Rattle.machine.specs.Machine.{S, after, answers, called, refusal_of, stepped, ticked, killed, happens, at_boot, started};
 ghost use Rattle.machine.specs.Machine.{continued, restarted, typed, taken, admitted, first_quota, logged_in};
+ghost use Rattle.machine.specs.Next.{asked_next, block_next, effective_in, executed_in};
 ghost use Rattle.machine.specs.Rounds.{rounds, runs_in};
 ghost use Rattle.machine.specs.Safe.{Safe};
 ghost use Rattle.machine.specs.Stretches.{Stretched, runs_on, table_after, ticked_if, time_after};
@@ -27,11 +28,13 @@ use crate::copies::{ungranted_if, ungranted_in};
 use crate::cores::free_all;
 use crate::deposits::{is_done, put_word, set_pc};
 use crate::login::{image_top, load_job};
+use crate::next::{JobWords, asked_next};
 use crate::rounds::Rounds;
 use crate::runner::{Loop, Runner, UpTo};
 use crate::turn::run_turn;
 use core_store::CoreStore;
 use job_sched::{Job, JobError, JobTable, TimeOfDay, Wait};
+use ka_cpu::{executed_word, find_address};
 use lock_queue::{LockTable, Request};
 use machine::{
     Answer, Config, Event, INTERRUPT_CHARACTER, JobView, LOGIN_QUOTA, RefusedEvent, Told,
@@ -39,7 +42,7 @@ use machine::{
 use std::alloc::{AllocError, Global};
 use std::marker::Model;
 use tty_lines::{Char7, LineNumber, Lines};
-use uuo_calls::{BlockRoom, CallRoom, MonitorCall, Service, World, service_of};
+use uuo_calls::{Asked, BlockRoom, CallRoom, MonitorCall, Service, World, service_of};
 use word36::{Address, BLOCK_WORDS, DATA_WORDS, Image, JOBS, Word};
 
 /// The parts of the machine, whatever state they are in.
@@ -719,6 +722,42 @@ impl<L: LockTable, C: CoreStore> Parts<L, C> {
         } else {
             self.world.cores.read(n, a)
         }
+    }
+
+    /// What a job asks of the lock queue by its next instruction, if that is a lock call; the block that it reads is
+    /// left in `room`.
+    pub fn asked_next(&self, n: u8, room: &mut BlockRoom) -> Option<Asked>
+        requires { Safe self.now }
+        ensures asked { result ≡ asked_next self.now.world n }
+        ensures block { room.new ≡ block_next self.now.world n }
+    {
+        match self.world.table.job(n) {
+            Some(job) => asked_next(n, job, &self.world.cores, room),
+            None => {
+                room.clear();
+                None
+            }
+        }
+    }
+
+    /// The word that is executed where a job executes this one.
+    pub fn executed_word(&self, n: u8, word: Word) -> Option<Word>
+        requires { Safe self.now }
+        ensures { result ≡ executed_in self.now.world n word }
+    {
+        let job = self.world.table.job(n)?;
+        let memory = JobWords::new(&self.world.cores, n);
+        executed_word(&job.regs, &memory, word).ok()
+    }
+
+    /// The effective address of a word of a job.
+    pub fn effective_address(&self, n: u8, word: Word) -> Option<Address>
+        requires { Safe self.now }
+        ensures { result ≡ effective_in self.now.world n word }
+    {
+        let job = self.world.table.job(n)?;
+        let memory = JobWords::new(&self.world.cores, n);
+        find_address(&job.regs, &memory, word).ok()
     }
 
     /// Stores a word at an address of a job, and says whether the job has that address.

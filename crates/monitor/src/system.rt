@@ -7,6 +7,7 @@ ghost use Rattle.lock_queue.specs.Jobs.{is_among as is_in_set};
 ghost use Rattle.machine.specs.Between.{Between, is_among, next_in};
 ghost use Rattle.machine.specs.Deposits.{deposited, started_at};
 ghost use Rattle.machine.specs.Machine.{happens, after, answers, at_boot};
+ghost use Rattle.machine.specs.Next.{asked_next, block_next, effective_in, executed_in};
 ghost use Rattle.machine.specs.Rounds.{rounds, runs_in};
 ghost use Rattle.machine.specs.Told.{before_in, read_in, told_in};
 ghost use Rattle.machine.specs.Views.{job_view, word_in};
@@ -23,7 +24,7 @@ use lock_queue::{LockTable, Request};
 use machine::{Answer, Config, Event, JobView, Told};
 use std::alloc::{AllocError, Global};
 use std::marker::Model;
-use uuo_calls::BlockRoom;
+use uuo_calls::{Asked, BlockRoom};
 use word36::{Address, Word};
 
 /// A DECsystem-10 with up to 63 jobs and 64 terminal lines (this project's profile).
@@ -196,6 +197,34 @@ impl<L: LockTable, C: CoreStore> System<L, C> {
         ensures { result ≡ word_in self.now.world n a }
     {
         self.parts.peek(n, a)
+    }
+
+    /// What a job asks of the lock queue by its next instruction, if that is a lock call: ENQ., DEQ. or ENQC., and the
+    /// word in its AC. The block that the call reads, or the block's first refusal, is left in `room`. The instruction
+    /// is found over indirect words and XCTs, as the processor finds it, and is not executed. `None`,
+    /// and no block, where the job is not there, or its next instruction is no lock call or is refused. An interrupt
+    /// that is due comes before that instruction.
+    pub fn asked_next(&self, n: u8, room: &mut BlockRoom) -> Option<Asked>
+        ensures asked { result ≡ asked_next self.now.world n }
+        ensures block { room.new ≡ block_next self.now.world n }
+    {
+        self.parts.asked_next(n, room)
+    }
+
+    /// The word that is executed where a job executes this one: itself, unless it is XCT. `None` where the job is not
+    /// there, or the processor refuses the XCT.
+    pub fn executed_word(&self, n: u8, word: Word) -> Option<Word>
+        ensures { result ≡ executed_in self.now.world n word }
+    {
+        self.parts.executed_word(n, word)
+    }
+
+    /// The effective address of a word of a job, over indirect words, as the processor finds it. `None` where the job
+    /// is not there, or the processor refuses the address.
+    pub fn effective_address(&self, n: u8, word: Word) -> Option<Address>
+        ensures { result ≡ effective_in self.now.world n word }
+    {
+        self.parts.effective_address(n, word)
     }
 
     /// Stores a word at an address of a job, as a debugger does: in a register below 20 octal, and in its

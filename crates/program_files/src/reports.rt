@@ -119,10 +119,10 @@ fn advice_on(
     let is_in_source = report.place.texts == 0;
     match report.fault {
         MacroFault::NotDefined(name) => advice_on_name(state, name),
-        MacroFault::Refused(name) | MacroFault::Segments(name) => {
-            advice_on_word(alloc, text_of(name).as_slice())
-        }
-        MacroFault::Digit(_) => Ok(Some(String::from_str(alloc, DECIMAL)?)),
+        MacroFault::Refused(name) => advice_on_word(alloc, text_of(name).as_slice()),
+        MacroFault::Digits(_, 8) | MacroFault::LongDigits(_) => Ok(Some(String::from_str(
+            alloc, DECIMAL,
+        )?)),
         MacroFault::Duplicate(_) if is_in_source => advice_on_label(alloc, source, line),
         MacroFault::NotInLiteral(_) if is_in_source => advice_on_literal(alloc, source, line),
         MacroFault::NoEnd => advice_on_literal(alloc, source, usize::MAX),
@@ -131,9 +131,14 @@ fn advice_on(
 }
 
 /// Adds the lines of the macros, conditions and rounds around a fault, the innermost first.
-fn push_around(text: &mut String, state: &Assembly, report: &Report) -> Result<(), AllocError> {
+fn push_around(
+    text: &mut String,
+    state: &Assembly,
+    source: &[u8],
+    report: &Report,
+) -> Result<(), AllocError> {
     let mut around = Vec::new(state.alloc);
-    push_around_place(&mut around, report.place, state.stream.around())?;
+    push_around_place(&mut around, report.place, state.stream.around(), source)?;
     let mut lines = Parts::of(around.as_slice(), b'\n');
     for _ in 0..around.len() {
         let Some(line) = lines.next() else {
@@ -158,7 +163,8 @@ fn push_fault(
 ) -> Result<(), AllocError> {
     let alloc = state.alloc;
     let mut words = Vec::new(alloc);
-    push_words(&mut words, report.fault)?;
+    let bytes = source.text.as_slice();
+    push_words(&mut words, report.fault, bytes, report.place.line)?;
     let mut reason = String::new(alloc);
     push_shown(&mut reason, words.as_slice())?;
     let place = ErrorPlace {
@@ -167,8 +173,8 @@ fn push_fault(
     };
     let mark = mark_of(alloc, report.fault)?;
     push_error(text, source, place, reason.as_str(), mark.as_str())?;
-    push_around(text, state, report)?;
-    match advice_on(state, source.text.as_slice(), report)? {
+    push_around(text, state, bytes, report)?;
+    match advice_on(state, bytes, report)? {
         Some(advice) => write!(text, "    {}\n", advice.as_str()),
         None => Ok(()),
     }

@@ -5,6 +5,8 @@ use Rattle.job_sched.specs.declared.job.Stop.{Stop}
 use Rattle.job_sched.specs.declared.job.Stop.TheVariants as stop
 use Rattle.ka_cpu.specs.declared.outcome.StopReason.{StopReason}
 use Rattle.ka_cpu.specs.declared.outcome.StopReason.TheVariants as reason
+use Rattle.run_facts.specs.declared.standing.Cut.{Cut}
+use Rattle.run_facts.specs.declared.standing.Cut.TheVariants as cut
 use Rattle.run_facts.specs.declared.standing.Standing.{Standing}
 use Rattle.run_facts.specs.declared.standing.Standing.TheVariants as standing
 
@@ -43,12 +45,17 @@ is_at_fault standing.Gone = false
 is_at_fault (standing.Stopped why) = is_at_fault_by why
 is_at_fault (standing.Goes wait) = false
 
--- 4 where jobs wait in a circle, 6 where a job was stopped at a fault, 0 where all jobs ended well, 5 where the run was
--- cut after so many steps, and else 1; the first of these that holds
-abbrev pub status_of : Bool → Bool → List Standing → ℕ
-status_of has_circle is_cut standings =
+-- 5 where a run was cut after as many steps as were asked for, 7 where it was cut and none were asked for, and else 1
+abbrev pub status_if_cut : Cut → ℕ
+status_if_cut cut.No = 1
+status_if_cut cut.Asked = 5
+status_if_cut cut.Unasked = 7
+
+-- 4 where jobs wait in a circle, 6 where a job was stopped at a fault, 0 where all jobs ended well, and else by whether the run
+-- was cut; the first of these that holds
+abbrev pub status_of : Bool → Cut → List Standing → ℕ
+status_of has_circle how standings =
     if has_circle then 4
     else if list_any is_at_fault standings then 6
     else if list_all has_ended_well standings then 0
-    else if is_cut then 5
-    else 1
+    else status_if_cut how

@@ -8,6 +8,6 @@ mod statuses;
 mod typing;
 
 pub use grants::{is_granted_in, is_left_of, is_new_grant};
-pub use standing::{Ending, Standing, has_ended_well, status_of};
-pub use statuses::{CIRCLE, CUT, DONE, FAULT, REFUSED};
+pub use standing::{Cut, Ending, Standing, has_ended_well, status_of};
+pub use statuses::{CIRCLE, CUT, DONE, FAULT, REFUSED, UNASKED_CUT};
 pub use typing::{Target, target_of};

@@ -1,9 +1,9 @@
 //! How jobs ended, and the exit status for it.
 ghost use Rattle.std.specs.Prelude.{◌≡◌};
 ghost use Rattle.std.specs.List.{list_all, list_any};
-ghost use Rattle.run_facts.specs.Ends.{is_at_fault, is_end, has_ended_well, status_of};
+ghost use Rattle.run_facts.specs.Ends.{is_at_fault, is_end, has_ended_well, status_if_cut, status_of};
 
-use crate::statuses::{CIRCLE, CUT, DONE, FAULT, REFUSED};
+use crate::statuses::{CIRCLE, CUT, DONE, FAULT, REFUSED, UNASKED_CUT};
 use job_sched::{Stop, Wait};
 use ka_cpu::StopReason;
 
@@ -63,19 +63,43 @@ fn is_some_at_fault(standings: &[Standing]) -> bool
     standings.iter().any(|standing| is_at_fault(*standing))
 }
 
+/// Whether a run was cut after some steps, with jobs that could go on.
+#[derive(Clone, Copy, Debug, PartialEq, Eq)]
+pub enum Cut {
+    /// It ended by itself.
+    No,
+    /// After as many steps as were asked for.
+    Asked,
+    /// After as many as are made where none were asked for.
+    Unasked,
+}
+
+impl Cut {
+    /// The exit status of a run that was cut so, or of one that left a job waiting.
+    fn status(self) -> u8
+        ensures { result ≡ status_if_cut self }
+    {
+        match self {
+            Cut::No => REFUSED,
+            Cut::Asked => CUT,
+            Cut::Unasked => UNASKED_CUT,
+        }
+    }
+}
+
 /// What else is known of the end of a run.
 #[derive(Clone, Copy, Debug, PartialEq, Eq)]
 pub struct Ending {
     /// Whether jobs wait in a circle.
     pub has_circle: bool,
-    /// Whether it was cut after as many steps as it was allowed.
-    pub is_cut: bool,
+    /// Whether it was cut.
+    pub cut: Cut,
 }
 
 /// The exit status of a run: 4 where jobs wait in a circle; else 6 where a job was stopped at a fault;
-/// else 0 where all jobs ended well; else 5 where the run was cut; else 1.
+/// else 0 where all jobs ended well; else 5 or 7 where the run was cut; else 1.
 pub fn status_of(ending: Ending, standings: &[Standing]) -> u8
-    ensures { result ≡ status_of ending.has_circle ending.is_cut standings.now }
+    ensures { result ≡ status_of ending.has_circle ending.cut standings.now }
 {
     if ending.has_circle {
         CIRCLE
@@ -83,9 +107,7 @@ pub fn status_of(ending: Ending, standings: &[Standing]) -> u8
         FAULT
     } else if have_ended_well(standings) {
         DONE
-    } else if ending.is_cut {
-        CUT
     } else {
-        REFUSED
+        ending.cut.status()
     }
 }

@@ -13,6 +13,9 @@ pub const CIRCLE: u8 = 4;
 /// The run ended after as many steps as it was allowed.
 pub const CUT: u8 = 5;
 
+/// The run ended after as many steps as are made where none were asked for.
+pub const UNASKED_CUT: u8 = 7;
+
 /// The processor stopped a job: an illegal instruction or address, a pushdown list that ran over, or a
 /// chain of addresses without end.
 pub const FAULT: u8 = 6;

@@ -1,4 +1,3 @@
-mod CallLemmas
 mod CircleLemmas
-mod FollowLemmas
 mod WordLemmas
+pub mod WaitLemmas

@@ -1,4 +1,4 @@
-pub mod Calls
-pub mod Followed
 pub mod Words
+pub mod FactWords
+pub mod Waits
 pub mod Standings

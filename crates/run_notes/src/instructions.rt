@@ -189,6 +189,40 @@ impl InstructionText<'_> {
     }
 }
 
+/// Why the processor refuses an instruction as illegal.
+fn illegal_kind(fields: Fields) -> &'static str {
+    match fields.op {
+        0 => "no operation",
+        1..=0o37 => "an operation of the job's own (LUUO), which is not here",
+        0o40..=0o77 => "a monitor call that is not here",
+        0o254 => "a function of JRST that is not here",
+        0o700..=0o777 => "an instruction of a device, which a job may not use",
+        _ => "an operation that is not here",
+    }
+}
+
+/// An instruction that the processor refused as illegal: as a person reads it, its word and its kind.
+#[derive(Clone, Copy, Debug)]
+pub struct IllegalText<'a> {
+    /// The program's labels and literals.
+    pub places: &'a Places,
+    /// The instruction.
+    pub word: Word,
+}
+
+impl fmt::Display for IllegalText<'_> {
+    fn fmt<W: fmt::Write>(&self, f: &mut fmt::Formatter<W>) -> fmt::Result {
+        let (places, word) = (self.places, self.word);
+        let fields = decode(word);
+        if mnemonic(fields.op).is_some() {
+            let instruction = InstructionText { places, word };
+            write!(f, "{instruction}, ")?;
+        }
+        let (octal, kind) = (word.octal(), illegal_kind(fields));
+        write!(f, "{}, {kind}", octal.as_str())
+    }
+}
+
 /// Writes a monitor call, which has an accumulator and no address.
 fn write_call<W: fmt::Write>(name: &str, ac: u8, f: &mut fmt::Formatter<W>) -> fmt::Result {
     if ac == 0 {

@@ -1,16 +1,9 @@
 //! A job as it stands before its turn.
 
-ghost use Rattle.std.specs.Prelude.{◌≡◌, Some, IfSome, length};
-ghost use Rattle.core_store.specs.Cores.{core_of};
-ghost use Rattle.job_sched.specs.Tables.{job_at};
-ghost use Rattle.job_sched.specs.declared.job.Job.{Job};
-ghost use Rattle.ka_cpu.specs.declared.limits.TheConstants.{MOST_EXECUTES};
-ghost use Rattle.ka_cpu.specs.Addresses.{target_of};
-ghost use Rattle.ka_cpu.specs.Exec.{word_behind};
+ghost use Rattle.std.specs.Prelude.{◌≡◌, IfSome};
+ghost use Rattle.machine.specs.Next.{effective_in, executed_in};
 ghost use Rattle.machine.specs.Views.{word_in};
-ghost use Rattle.run_notes.specs.Followed.{address_found, word_found};
 
-use crate::followed::{effective_address, executed_word};
 use concrete_machine::Machine;
 use word36::{Address, Word};
 
@@ -81,6 +74,17 @@ fn word_at(machine: &Machine, number: u8, address: Option<u32>) -> Option<Word>
     }
 }
 
+/// The effective address of a word of a job, over indirect words. None if the job is not there, or if the processor refuses
+/// the address.
+pub fn address_of(machine: &Machine, number: u8, word: Word) -> Option<u32>
+    ensures { result ≡ effective_in machine.now.world number word }
+{
+    match machine.effective_address(number, word) {
+        Some(address) => Some(address.number()),
+        None => None,
+    }
+}
+
 /// The registers of a job.
 fn registers_of(machine: &Machine, number: u8) -> [Word; REGISTERS] {
     let mut registers = [Word::new(0); REGISTERS];
@@ -96,16 +100,15 @@ fn registers_of(machine: &Machine, number: u8) -> [Word; REGISTERS] {
 pub fn snapshot_of(machine: &Machine, number: u8, place: Address) -> Snapshot
     ensures place { result.place ≡ place }
     ensures instruction { IfSome (word_in machine.now.world number place) (λ w. result.instruction ≡ w) }
-    ensures executed { (j : Job) → job_at machine.now.world.table.jobs number ≡ Some j → length j.regs.ac ≡ 16
-        → IfSome (word_found (word_behind MOST_EXECUTES j.regs.ac (core_of machine.now.world.cores number) result.instruction))
-        (λ w. result.executed ≡ w) }
-    ensures address { (j : Job) → job_at machine.now.world.table.jobs number ≡ Some j → length j.regs.ac ≡ 16
-        → result.address ≡ address_found (target_of j.regs.ac (core_of machine.now.world.cores number) result.executed) }
+    ensures executed { IfSome (executed_in machine.now.world number result.instruction) (λ w. result.executed ≡ w) }
+    ensures address { result.address ≡ effective_in machine.now.world number result.executed }
     ensures operand { IfSome result.address (λ a. result.operand ≡ word_in machine.now.world number a) }
 {
     let instruction = machine.peek(number, place.number()).unwrap_or(Word::new(0));
-    let executed = executed_word(machine, number, instruction).unwrap_or(instruction);
-    let address = effective_address(machine, number, executed);
+    let executed = machine
+        .executed_word(number, instruction)
+        .unwrap_or(instruction);
+    let address = address_of(machine, number, executed);
     Snapshot {
         place,
         instruction,

@@ -1,8 +1,7 @@
 //! What a step changed.
 
-use crate::followed::effective_address;
 use crate::instructions::Reference;
-use crate::snapshot::Snapshot;
+use crate::snapshot::{Snapshot, address_of};
 use crate::traced_job::TracedJob;
 use concrete_machine::Machine;
 use ka_isa::{Family, classify, decode};
@@ -75,13 +74,13 @@ fn address_beside(machine: &Machine, job: &TracedJob, before: &Snapshot) -> Opti
         }
         Family::Byte if fields.op == IDPB || fields.op == DPB => {
             let pointer = machine.peek(job.number, before.address?)?;
-            effective_address(machine, job.number, pointer)
+            address_of(machine, job.number, pointer)
         }
         _ => None,
     }
 }
 
-/// The first and the last address where BLT stored words.
+/// The first and the last address where BLT stored words, if they are no registers.
 fn block_of(before: &Snapshot) -> Option<(u32, u32)> {
     let fields = decode(before.executed);
     if classify(fields.op) != Family::Blt {
@@ -89,7 +88,9 @@ fn block_of(before: &Snapshot) -> Option<(u32, u32)> {
     }
     let accumulator = before.registers.get(usize::from(fields.ac))?;
     let first = accumulator.right();
-    Some((first, before.address?.max(first)))
+    let last = before.address?.max(first);
+    let registers = before.registers.len() as u32;
+    (last >= registers).then_some((first.max(registers), last))
 }
 
 /// Adds the block that BLT stored: its first word, and the address up to which it reaches.
@@ -114,7 +115,7 @@ fn push_block(
     added.and(write!(text, " .. {reference}"))
 }
 
-/// Adds the word that a step stored beside the one at the effective address.
+/// Adds the word that a step stored beside the one at the effective address, where it is no register.
 fn push_beside(
     text: &mut String,
     machine: &Machine,
@@ -125,8 +126,10 @@ fn push_beside(
         return Ok(());
     };
     match machine.peek(job.number, address) {
-        Some(word) => push_word(text, job, address, word),
-        None => Ok(()),
+        Some(word) if address >= before.registers.len() as u32 => {
+            push_word(text, job, address, word)
+        }
+        _ => Ok(()),
     }
 }
 

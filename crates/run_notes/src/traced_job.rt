@@ -10,10 +10,8 @@ pub struct TracedJob {
     pub number: u8,
     /// The labels and the literals of its source.
     pub places: Places,
-    /// Its PC before its last step.
+    /// Its PC before its last step; its start where it made none.
     pub last: Address,
-    /// Its PC now.
-    pub next: Address,
 }
 
 impl TracedJob {

@@ -1,41 +1,28 @@
-//! How long requests wait for their grants, and a table of that by lock. Times are in ticks.
+//! How long requests wait for their grants, by the facts of a run. Times are in ticks.
+ghost use Rattle.std.specs.Prelude.{◌≡◌, ◌++◌, ◌<◌, [], IfOk, IfSome, Ok, OnOk, Some, length, position, string_bytes};
+ghost use Rattle.word36.specs.Words.{left_half};
+ghost use Rattle.run_notes.specs.Waits.{IsDueText, after_call, after_end, after_fact, after_facts, after_request, clock_at, ends, granted_after, is_due, kind_of, makes_request, request_made};
+ghost use Rattle.run_notes.specs.Waits.{lock_line, started_at, still_waiting, stopped_by, table_of, table_words, wait_line, wait_lines, waits_by, with_waits};
 
-use crate::calls::push_wants;
-use crate::locks::push_name;
-use crate::wait_lines::lock_wait_text;
+use crate::fact_lines::{push_wants, stays};
+use crate::lock_rows::{Count, LockRow, count_locks};
+use crate::wait_lines::push_lock_wait;
+use call_block::Block;
 use concrete_machine::Machine;
-use lock_queue::{EnqueueKind, Key, Request};
-use run_facts::{is_granted_in, is_left_of};
+use lock_queue::steps::{names_key, write_request};
+use lock_queue::{Asking, EnqueueKind, Key, LockReply, Request};
+use run_events::{Called, Fact};
+use run_facts::is_left_of;
 use std::alloc::{AllocError, Global};
+use std::marker::Model;
 
-/// The width of the table's column with the names of locks.
-const NAME_WIDTH: usize = 20;
-
-/// How long a request has been present.
-#[derive(Clone, Copy)]
-struct Clock {
-    /// The tick in which it came.
-    since: u64,
-    /// Whether it is granted.
-    is_granted: bool,
-    /// Whether its long wait was reported.
-    is_reported: bool,
-}
-
-/// A row of the table: the waits for a lock.
+/// The clock of a request that waits for its grant.
 #[derive(Drop)]
-struct LockRow {
-    key: Key,
-    /// How many requests asked for it.
-    requests: u64,
-    /// How many of them were not granted at once.
-    waited: u64,
-    /// The longest of their waits.
-    longest: u64,
-    /// All of their waits together.
-    total: u64,
-    /// How many of them still wait.
-    waiting: u64,
+pub struct WaitClock {
+    /// The tick of the call that made the request.
+    pub since: u64,
+    /// The request, as the call made it.
+    pub request: Request,
 }
 
 /// Clocks that measure how long requests wait for their grants.
@@ -43,281 +30,321 @@ struct LockRow {
 pub struct WaitClocks {
     /// A wait of more ticks than these is reported.
     most: u64,
-    /// A clock for each request that is present, in order of arrival.
-    clocks: Vec<Clock>,
+    /// A clock for each request that waits, the last first.
+    waiting: Vec<WaitClock>,
+    /// The table by lock.
     rows: Vec<LockRow>,
 }
 
-/// The position of a lock's row, or the number of rows where it has none.
-fn position_of(rows: &[LockRow], key: &Key) -> usize {
-    for (position, row) in rows.iter().enumerate() {
-        if row.key.is_same(key) {
-            return position;
+impl Model for WaitClocks {
+    ghost use Rattle.run_notes.specs.Waits.{Clocks};
+
+    ghost Value = { Clocks };
+
+    ghost view = { λ w. record { most = w.most; waiting = w.waiting.items; rows = w.rows.items } };
+}
+
+/// Whether a lock call made a request.
+fn makes_request(called: &Called) -> bool
+    ensures { result ≡ makes_request called.now.asked.service (left_half called.now.asked.word) called.now.reply }
+{
+    let asked = called.asked;
+    match called.reply {
+        LockReply::Granted | LockReply::Queued => true,
+        LockReply::Refused(refusal) => stays(asked.service, asked.word.left(), refusal),
+        LockReply::Done => false,
+    }
+}
+
+/// Whether the request of a lock call that was answered so waits.
+fn waits_by(reply: LockReply) -> bool
+    ensures { result ≡ waits_by reply }
+{
+    match reply {
+        LockReply::Granted => false,
+        LockReply::Queued | LockReply::Refused(_) | LockReply::Done => true,
+    }
+}
+
+/// What the request of an ENQ. of this function does where it is not granted at once.
+fn kind_of(function: u32) -> EnqueueKind
+    ensures { result ≡ kind_of function }
+{
+    match function {
+        0 => EnqueueKind::Blocking,
+        1 => EnqueueKind::AtOnce,
+        _ => EnqueueKind::Interrupt,
+    }
+}
+
+/// The request that a lock call made.
+fn request_made(called: &Called, block: &Block) -> Request
+    ensures { result ≡ request_made called.now block.now }
+{
+    let asking = Asking {
+        kind: kind_of(called.asked.word.left()),
+        id: block.id,
+        armed: false,
+        quota: 0,
+    };
+    let mut request = Request::default();
+    write_request(&mut request, called.job, &asking, false, &block.wants);
+    request
+}
+
+/// Whether a fact ends the wait of a request.
+fn ends(fact: &Fact, clock: &WaitClock) -> bool
+    ensures { result ≡ ends fact.now clock.now }
+{
+    match fact {
+        Fact::Granted(request) | Fact::Left(request) => is_left_of(request, &clock.request),
+        Fact::LimitEnded(job, _) => {
+            clock.request.job == *job && matches!(clock.request.kind, EnqueueKind::Blocking)
         }
-    }
-    rows.len()
-}
-
-/// The row of a lock, which is added where there is none.
-fn row_of<'r>(
-    rows: &'r mut Vec<LockRow>,
-    key: &Key,
-) -> Result<Option<&'r mut LockRow>, AllocError> {
-    let position = position_of(rows.as_slice(), key);
-    if position == rows.len() {
-        rows.push(LockRow {
-            key: *key,
-            requests: 0,
-            waited: 0,
-            longest: 0,
-            total: 0,
-            waiting: 0,
-        })?;
-    }
-    Ok(rows.get_mut(position))
-}
-
-impl LockRow {
-    /// Counts a wait that took so many ticks, or has taken them up to now.
-    fn add_wait(&mut self, ticks: u64) {
-        self.longest = self.longest.max(ticks);
-        self.total = self.total.saturating_add(ticks);
-    }
-
-    /// The mean of the waits, in tenths of ticks.
-    fn mean_tenths(&self) -> u64 {
-        self.total
-            .saturating_mul(10)
-            .checked_div(self.waited)
-            .unwrap_or(0)
-    }
-
-    /// Adds its line of the table.
-    fn push_line(&self, text: &mut String) -> Result<(), AllocError> {
-        let before = text.len();
-        let named = push_name(text, &self.key.name);
-        let blanks = (before.saturating_add(NAME_WIDTH)).saturating_sub(text.len());
-        let tenths = self.mean_tenths();
-        let counted = write!(
-            text,
-            "{:blanks$}{:>9}{:>9}{:>9}{:>7}.{}{:>15}\n",
-            "",
-            self.requests,
-            self.waited,
-            self.longest,
-            tenths / 10,
-            tenths % 10,
-            self.waiting
-        );
-        named.and(counted)
+        _ => false,
     }
 }
 
-/// Whether a request is gone.
-fn has_left(old: &Request, requests: &[Request]) -> bool {
-    for request in requests {
-        if is_left_of(request, old) {
-            return false;
-        }
-    }
-    true
-}
-
-/// Adds the line on a request that is granted after so many ticks.
+/// Adds the line on a request that is granted, and has waited since a tick.
+#[tactic(auto, using(std::proofs::Common::append_assoc))]
 fn push_granted(
     text: &mut String,
     tick: u64,
-    ticks: u64,
+    since: u64,
     request: &Request,
-) -> Result<(), AllocError> {
-    let job = request.job;
-    write!(text, "tick {tick}, job {job}: granted after {ticks} ticks")
-        .and(push_wants(text, request.wants.as_slice()))
-        .and(text.push_str("\n"))
+) -> Result<(), AllocError>
+    ensures { OnOk result (string_bytes text.new ≡ string_bytes text.old ++ granted_after tick request.now (Some since)) }
+{
+    let (job, ticks) = (request.job, tick.saturating_sub(since));
+    write!(text, "tick {tick}, job {job}: granted after {ticks} ticks")?;
+    push_wants(text, request.wants.as_slice())?;
+    text.push_str("\n")
+}
+
+/// Whether a wait, for which its job waits too, is long from this tick on.
+fn is_due(most: u64, tick: u64, clock: &WaitClock) -> bool
+    ensures { result ≡ is_due most tick clock.now }
+{
+    let due = clock.since.saturating_add(most).saturating_add(1);
+    matches!(clock.request.kind, EnqueueKind::Blocking) && due == tick
+}
+
+/// The line on a wait that is long from this tick on.
+#[tactic(auto, using(std::proofs::Common::append_assoc))]
+fn due_text(
+    alloc: Global,
+    tick: u64,
+    clock: &WaitClock,
+    requests: &[Request],
+) -> Result<String, AllocError>
+    ensures { IfOk result (λ text. IsDueText requests.now tick (Some clock.now) (string_bytes text)) }
+{
+    let job = clock.request.job;
+    let ticks = tick.saturating_sub(clock.since);
+    let mut text = String::new(alloc);
+    write!(text, "tick {tick}, job {job}: ")?;
+    push_lock_wait(alloc, &mut text, requests, job)?;
+    write!(text, ", for {ticks} ticks\n")?;
+    Ok(text)
+}
+
+/// Counts the waits of these clocks, which still go on, up to this tick.
+fn add_waits(rows: &mut Vec<LockRow>, tick: u64, waiting: &[WaitClock]) -> Result<(), AllocError>
+    ensures { OnOk result (rows.new.items ≡ with_waits tick waiting.now rows.old.items) }
+{
+    for clock in waiting {
+        let ticks = tick.saturating_sub(clock.since);
+        let wants = clock.request.wants.as_slice();
+        count_locks(rows, Count::Waited(ticks), wants)?;
+    }
+    Ok(())
+}
+
+/// How many of these clocks are of requests that name a lock.
+fn still_waiting(waiting: &[WaitClock], key: &Key) -> usize
+    ensures { result ≡ still_waiting waiting.now key.now }
+{
+    waiting
+        .iter()
+        .filter(|clock| names_key(clock.request.wants.as_slice(), key))
+        .count()
+}
+
+/// Adds the line of a row, where the requests of these clocks still wait.
+fn push_row(
+    alloc: Global,
+    text: &mut String,
+    waiting: &[WaitClock],
+    row: &LockRow,
+) -> Result<(), AllocError>
+    ensures { OnOk result (string_bytes text.new ≡ string_bytes text.old ++ lock_line waiting.now row.now) }
+{
+    row.push_line(alloc, text, still_waiting(waiting, &row.key))
+}
+
+/// The table of these rows, where the requests of these clocks still wait.
+#[tactic(auto, using(std::proofs::Common::append_assoc))]
+fn table_text(alloc: Global, waiting: &[WaitClock], rows: &[LockRow]) -> Result<String, AllocError>
+    ensures { IfOk result (λ text. string_bytes text ≡ table_of waiting.now rows.now) }
+{
+    let mut text = String::new(alloc);
+    if rows.is_empty() {
+        return Ok(text);
+    }
+    text.push_str("lock                 requests   waited  longest     mean  still waiting\n")?;
+    for row in rows {
+        push_row(alloc, &mut text, waiting, row)?;
+    }
+    Ok(text)
 }
 
 impl WaitClocks {
-    /// Clocks that report waits of more than `most` ticks, before any request.
-    pub fn new(alloc: Global, most: u64) -> Self {
+    /// Clocks by which waits of more than `most` ticks are long, before any request.
+    pub fn new(alloc: Global, most: u64) -> Self
+        ensures { result ≡ record { most = most; waiting = []; rows = [] } }
+    {
         WaitClocks {
             most,
-            clocks: Vec::new(alloc),
+            waiting: Vec::new(alloc),
             rows: Vec::new(alloc),
         }
     }
 
-    /// Counts a request that came.
-    fn count(&mut self, request: &Request, is_granted: bool) -> Result<(), AllocError> {
-        for want in request.wants.as_slice() {
-            if let Some(row) = row_of(&mut self.rows, &want.key)? {
-                row.requests = row.requests.saturating_add(1);
-                row.waited = row.waited.saturating_add(u64::from(!is_granted));
-            }
-        }
-        Ok(())
-    }
-
-    /// Counts a wait of a request for each of its locks. It is over, or still goes on where the run ends.
-    fn add_wait(&mut self, request: &Request, ticks: u64, is_over: bool) -> Result<(), AllocError> {
-        for want in request.wants.as_slice() {
-            if let Some(row) = row_of(&mut self.rows, &want.key)? {
-                row.add_wait(ticks);
-                row.waiting = row.waiting.saturating_add(u64::from(!is_over));
-            }
-        }
-        Ok(())
-    }
-
-    /// The clock of a request that is present, from the one that it had before; adds a line where the request was
-    /// granted since.
-    fn clock_of(
-        &mut self,
-        tick: u64,
-        known: Option<Clock>,
-        request: &Request,
-        is_granted: bool,
-        text: &mut String,
-    ) -> Result<Clock, AllocError> {
-        let mut counted = Ok(());
-        let clock = match known {
-            Some(clock) if is_granted && !clock.is_granted => {
-                let ticks = tick.saturating_sub(clock.since);
-                counted = self
-                    .add_wait(request, ticks, true)
-                    .and(push_granted(text, tick, ticks, request));
-                clock
-            }
-            Some(clock) => clock,
-            None => {
-                counted = self.count(request, is_granted);
-                Clock {
+    /// Counts a request that a lock call made with this block, and starts its clock if it waits.
+    fn add_request(&mut self, tick: u64, called: &Called, block: &Block) -> Result<(), AllocError>
+        ensures { OnOk result (self.new ≡ after_request tick called.now (Some (Ok block.now)) self.old) }
+    {
+        let waits = waits_by(called.reply);
+        count_locks(&mut self.rows, Count::Asked(waits), block.wants.as_slice())?;
+        if waits {
+            let request = request_made(called, block);
+            self.waiting.insert(
+                0,
+                WaitClock {
                     since: tick,
-                    is_granted,
-                    is_reported: false,
-                }
-            }
-        };
-        counted.and(Ok(Clock {
-            is_granted,
-            ..clock
-        }))
+                    request,
+                },
+            )?;
+        }
+        Ok(())
     }
 
-    /// Takes note of the requests that are present now, and reports how long each new grant took. `before` are
-    /// those of the last call.
-    pub fn note(
+    /// Counts the request of a lock call, if the call made one, and starts its clock if it waits.
+    fn start(&mut self, tick: u64, called: &Called) -> Result<(), AllocError>
+        ensures { OnOk result (self.new ≡ after_call tick called.now self.old) }
+    {
+        if !makes_request(called) {
+            return Ok(());
+        }
+        match &called.block {
+            Some(Ok(block)) => self.add_request(tick, called, block),
+            Some(Err(_)) | None => Ok(()),
+        }
+    }
+
+    /// The position of the clock that a fact stops, if it stops one.
+    fn stopped_at(&self, fact: &Fact) -> Option<usize>
+        ensures value { result ≡ position (ends fact.now) self.now.waiting }
+        ensures within { IfSome result (λ i. i < length self.now.waiting) }
+    {
+        self.waiting.iter().position(|clock| ends(fact, clock))
+    }
+
+    /// Stops the clock that a fact stops, if it stops one, counts the wait, and gives the tick in which that began.
+    fn stop(&mut self, tick: u64, fact: &Fact) -> Result<Option<u64>, AllocError>
+        ensures clocks { OnOk result (self.new ≡ after_end tick fact.now self.old) }
+        ensures since { IfOk result (λ since. since ≡ started_at (stopped_by fact.now self.old.waiting)) }
+    {
+        let Some(position) = self.stopped_at(fact) else {
+            return Ok(None);
+        };
+        let clock = self.waiting.remove(position);
+        let ticks = tick.saturating_sub(clock.since);
+        let wants = clock.request.wants.as_slice();
+        count_locks(&mut self.rows, Count::Waited(ticks), wants)?;
+        Ok(Some(clock.since))
+    }
+
+    /// Takes note of a fact of this tick, and adds how long a grant took.
+    fn note(&mut self, tick: u64, fact: &Fact, text: &mut String) -> Result<(), AllocError>
+        ensures clocks { OnOk result (self.new ≡ after_fact tick fact.now self.old) }
+        ensures text { OnOk result (string_bytes text.new ≡ string_bytes text.old ++ wait_line tick fact.now self.old.waiting) }
+    {
+        match fact {
+            Fact::Called(called) => self.start(tick, called),
+            Fact::Granted(request) => match self.stop(tick, fact)? {
+                Some(since) => push_granted(text, tick, since, request),
+                None => Ok(()),
+            },
+            _ => {
+                self.stop(tick, fact)?;
+                Ok(())
+            }
+        }
+    }
+
+    /// Takes note of the facts of this tick, and gives lines on how long grants took.
+    pub fn note_all(
         &mut self,
         alloc: Global,
         tick: u64,
-        before: &[Request],
-        requests: &[Request],
-    ) -> Result<String, AllocError> {
+        facts: &[Fact],
+    ) -> Result<String, AllocError>
+        ensures clocks { OnOk result (self.new ≡ after_facts tick facts.now self.old) }
+        ensures text { IfOk result (λ text. string_bytes text ≡ wait_lines tick facts.now self.old) }
+    {
         let mut text = String::new(alloc);
-        let mut clocks = Vec::new(alloc);
-        for (position, request) in requests.iter().enumerate() {
-            let known = self.known_clock(before, request);
-            let is_granted = is_granted_in(requests, position);
-            let clock = self.clock_of(tick, known, request, is_granted, &mut text)?;
-            clocks.push(clock)?;
+        for fact in facts {
+            self.note(tick, fact, &mut text)?;
         }
-        self.add_left(tick, before, requests)?;
-        self.clocks = clocks;
         Ok(text)
     }
 
-    /// The clock of a request, if the request was present before.
-    fn known_clock(&self, before: &[Request], request: &Request) -> Option<Clock> {
-        for (old, clock) in before.iter().zip(&self.clocks) {
-            if is_left_of(request, old) {
-                return Some(*clock);
-            }
-        }
-        None
-    }
-
-    /// Counts the waits of the requests that are gone since.
-    fn add_left(
-        &mut self,
-        tick: u64,
-        before: &[Request],
-        requests: &[Request],
-    ) -> Result<(), AllocError> {
-        for (position, old) in before.iter().enumerate() {
-            if let Some(clock) = self.clocks.get(position).copied() {
-                if !clock.is_granted && has_left(old, requests) {
-                    self.add_wait(old, tick.saturating_sub(clock.since), true)?;
-                }
-            }
-        }
-        Ok(())
-    }
-
-    /// In how many ticks the first of these waits is longer than is to be reported; a great number if none will be.
-    /// `requests` are those of the machine.
-    pub fn ticks_to_overdue(&self, tick: u64, requests: &[Request]) -> u64 {
+    /// In how many ticks the first of these waits is long; a great number if none will be.
+    pub fn ticks_to_overdue(&self, tick: u64) -> u64 {
         let mut least = u64::MAX;
-        for (clock, request) in self.clocks.as_slice().iter().zip(requests) {
-            if self.is_running(clock, request) {
-                let due = clock.since.saturating_add(self.most).saturating_add(1);
-                least = least.min(due.saturating_sub(tick));
+        for clock in &self.waiting {
+            let due = clock.since.saturating_add(self.most).saturating_add(1);
+            if matches!(clock.request.kind, EnqueueKind::Blocking) && due > tick {
+                least = least.min(due - tick);
             }
         }
         least
     }
 
-    /// Whether the clock of a request runs towards a report: the request makes its job wait, which was not reported.
-    fn is_running(&self, clock: &Clock, request: &Request) -> bool {
-        let is_silent = clock.is_granted || clock.is_reported;
-        !is_silent && request.kind == EnqueueKind::Blocking
+    /// The position of the clock of a wait that is long from this tick on, if there is one.
+    fn due_at(&self, tick: u64) -> Option<usize>
+        ensures value { result ≡ position (is_due self.now.most tick) self.now.waiting }
+        ensures within { IfSome result (λ i. i < length self.now.waiting) }
+    {
+        let most = self.most;
+        self.waiting
+            .iter()
+            .position(|clock| is_due(most, tick, clock))
     }
 
-    /// A line on each job that waits for longer than is to be reported, once for each wait. `requests` are those
-    /// of the machine.
-    pub fn overdue(
-        &mut self,
-        alloc: Global,
-        tick: u64,
-        machine: &Machine,
-        requests: &[Request],
-    ) -> Result<String, AllocError> {
-        let mut text = String::new(alloc);
-        for (clock, request) in self.clocks.as_mut_slice().iter_mut().zip(requests) {
-            let ticks = tick.saturating_sub(clock.since);
-            let is_silent = clock.is_granted || clock.is_reported || ticks <= self.most;
-            if is_silent || request.kind != EnqueueKind::Blocking {
-                continue;
+    /// A line on the job that waits for long from this tick on, if there is one: at most one job begins to wait in a tick.
+    pub fn overdue(&self, alloc: Global, tick: u64, machine: &Machine) -> Result<String, AllocError>
+        ensures { IfOk result (λ text. IsDueText machine.now.world.requests tick
+            (clock_at self.now.waiting (position (is_due self.now.most tick) self.now.waiting)) (string_bytes text)) }
+    {
+        match self.due_at(tick) {
+            Some(position) => {
+                let requests = machine.requests(alloc)?;
+                due_text(alloc, tick, &self.waiting[position], requests.as_slice())
             }
-            clock.is_reported = true;
-            let job = request.job;
-            let waits = lock_wait_text(alloc, machine, job)?;
-            write!(text, "tick {tick}, job {job}: {waits}, for {ticks} ticks\n")?;
+            None => Ok(String::new(alloc)),
         }
-        Ok(text)
     }
 
     /// The table by lock, in the order in which locks were first asked for; empty where none was. Waits that
-    /// still go on are counted up to this tick. `requests` are those that are present.
-    pub fn table(
-        &mut self,
-        alloc: Global,
-        tick: u64,
-        requests: &[Request],
-    ) -> Result<String, AllocError> {
-        for (position, request) in requests.iter().enumerate() {
-            if let Some(clock) = self.clocks.get(position).copied() {
-                if !clock.is_granted {
-                    self.add_wait(request, tick.saturating_sub(clock.since), false)?;
-                }
-            }
-        }
-        let mut text = String::new(alloc);
-        if self.rows.is_empty() {
-            return Ok(text);
-        }
-        text.push_str("lock                 requests   waited  longest     mean  still waiting\n")?;
-        for row in &self.rows {
-            row.push_line(&mut text)?;
-        }
-        Ok(text)
+    /// still go on are counted up to this tick.
+    pub fn table(&self, alloc: Global, tick: u64) -> Result<String, AllocError>
+        ensures { IfOk result (λ text. string_bytes text ≡ table_words tick self.now) }
+    {
+        let waiting = self.waiting.as_slice();
+        let mut rows = Vec::from_slice(alloc, self.rows.as_slice())?;
+        add_waits(&mut rows, tick, waiting)?;
+        table_text(alloc, waiting, rows.as_slice())
     }
 }

@@ -1,9 +1,8 @@
 //! What a job waits for, in words.
-ghost use Rattle.std.specs.Prelude.{◌≡◌, ◌++◌, ◌<◌, ℕ, List, IfOk, OnOk, length, string_bytes};
+ghost use Rattle.std.specs.Prelude.{◌≡◌, ◌++◌, ◌<◌, ℕ, List, OnOk, length, string_bytes};
 ghost use Rattle.run_notes.specs.Words.{IsWaitText, before_words, jobs_words, wait_words};
 
 use crate::locks::push_lock;
-use concrete_machine::Machine;
 use lock_queue::Request;
 use std::alloc::{AllocError, Global};
 use wait_graph::{LockWait, lock_wait};
@@ -64,14 +63,4 @@ pub fn push_lock_wait(
         Some(wait) => push_wait(text, &wait),
         None => text.push_str("a lock"),
     }
-}
-
-/// What a job waits for by its request: `waits for lock X, held by job 2`.
-pub fn lock_wait_text(alloc: Global, machine: &Machine, job: u8) -> Result<String, AllocError>
-    ensures { IfOk result (λ text. IsWaitText machine.now.world.requests job (string_bytes text)) }
-{
-    let requests = machine.requests(alloc)?;
-    let mut text = String::new(alloc);
-    push_lock_wait(alloc, &mut text, requests.as_slice(), job)?;
-    Ok(text)
 }

@@ -1,5 +1,5 @@
 -- Events that join a piece.
-use Rattle.std.proofs.Common.{◌≡◌, ◌+◌, ◌++◌, ◌∙◌, ℕ, zero, suc, Bool, true, false, List, [], ◌∷◌, refl, ap, sym, arith, append_assoc, append-nil, map}
+use Rattle.std.proofs.Common.{◌≡◌, ◌≤◌, ◌+◌, ◌-◌, ◌++◌, ◌∙◌, ℕ, zero, suc, Bool, true, false, List, [], ◌∷◌, refl, ap, sym, arith, append_assoc, append-nil, map}
 use Rattle.std.proofs.lemmas.Grind.{replicate_next, flat_map-append}
 use Rattle.std.proofs.lemmas.List.{map-append}
 use Rattle.run_record.specs.Pieces.{rounds, last_step, events_of, events_in}
@@ -27,6 +27,26 @@ pub step_joins : (n : ℕ) (stepped : Bool) → stepped ≡ false
     → events_of (piece.Rounds n true) ≡ events_of (piece.Rounds n stepped) ++ event.Step ∷ []
 step_joins n false is = sym (ap (λ l. l ++ event.Step ∷ []) (append-nil (rounds n)))
 step_joins n true is = absurd (cc)
+
+rounds_further : (n m : ℕ) → rounds (n + m) ≡ rounds n ++ rounds m
+rounds_further zero m = ap rounds (let e : 0 + m ≡ m = omega arith in e)
+rounds_further (suc n) m =
+    ap rounds (let e : suc n + m ≡ suc (n + m) = omega arith in e) ∙ ap (λ l. event.Step ∷ event.Tick ∷ l) (rounds_further n m)
+
+-- some of so many rounds, and those behind them
+pub rounds_part : (n m : ℕ) → m ≤ n → rounds n ≡ rounds m ++ rounds (n - m)
+rounds_part n m few = ap rounds (let e : n ≡ m + (n - m) = omega (arith, few) in e) ∙ rounds_further m (n - m)
+
+-- rounds behind rounds
+pub rounds_join : (n m : ℕ) (stepped : Bool) → stepped ≡ false
+    → events_of (piece.Rounds (n + m) stepped) ≡ events_of (piece.Rounds n stepped) ++ rounds m
+rounds_join n m false is =
+    append-nil (rounds (n + m)) ∙ rounds_further n m ∙ ap (λ l. l ++ rounds m) (sym (append-nil (rounds n)))
+rounds_join n m true is = absurd (cc)
+
+-- rounds that stand for themselves
+pub rounds_alone : (n : ℕ) → events_of (piece.Rounds n false) ≡ rounds n
+rounds_alone n = append-nil (rounds n)
 
 -- a tick behind ticks
 pub ticks_join : (n : ℕ) → events_of (piece.Ticks (n + 1)) ≡ events_of (piece.Ticks n) ++ event.Tick ∷ []

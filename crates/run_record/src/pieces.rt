@@ -1,7 +1,7 @@
 //! Pieces of a run: what one command of a script says, or two.
-ghost use Rattle.std.specs.Prelude.{◌≡◌, ◌≢◌, ◌++◌, ◌∷◌, [], true, false, IfOk};
+ghost use Rattle.std.specs.Prelude.{◌≡◌, ◌≤◌, ◌≢◌, ◌++◌, ◌∷◌, [], true, false, IfOk};
 ghost use Rattle.run_record.specs.declared.happened.RunEvent.TheVariants.{Typed};
-ghost use Rattle.run_record.specs.Pieces.{events_of};
+ghost use Rattle.run_record.specs.Pieces.{events_of, rounds};
 
 use crate::happened::RunEvent;
 use std::alloc::{AllocError, Global};
@@ -83,5 +83,20 @@ impl Piece {
             _ => return Ok(false),
         }
         Ok(true)
+    }
+
+    /// Takes in rounds that were made behind the piece, where one command says both; else the piece stays as it is.
+    pub fn join_rounds(&mut self, count: u32) -> bool
+        requires { count ≤ MOST_ROUNDS }
+        ensures joined { result ≡ true → events_of self.new ≡ events_of self.old ++ rounds count }
+        ensures apart { result ≡ false → self.new ≡ self.old }
+    {
+        match self {
+            Piece::Rounds(made, stepped) if !*stepped && *made <= MOST_ROUNDS - count => {
+                *made += count;
+                true
+            }
+            _ => false,
+        }
     }
 }

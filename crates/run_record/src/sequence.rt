@@ -1,9 +1,10 @@
 //! All events of a run.
-ghost use Rattle.std.specs.Prelude.{◌≡◌, ◌++◌, ◌∷◌, [], OnOk};
-ghost use Rattle.run_record.specs.Pieces.{events_in, events_of};
+ghost use Rattle.std.specs.Prelude.{◌≡◌, ◌≤◌, ◌++◌, ◌∷◌, [], OnOk};
+ghost use Rattle.run_record.specs.Pieces.{events_in, events_of, rounds};
+ghost use Rattle.run_record.specs.declared.pieces.TheConstants.{MOST_ROUNDS};
 
 use crate::happened::RunEvent;
-use crate::pieces::Piece;
+use crate::pieces::{MOST_ROUNDS, Piece};
 use std::alloc::{AllocError, Global};
 use std::marker::Model;
 
@@ -59,6 +60,35 @@ impl EventSequence {
                 Ok(())
             }
         }
+    }
+
+    /// Adds rounds that one command of a script makes. It fails as `add` does.
+    #[tactic(auto, using(crate::proofs::Events::events_more, crate::proofs::Events::rounds_alone, std::proofs::Common::append_assoc))]
+    fn add_piece(&mut self, count: u32) -> Result<(), AllocError>
+        requires { count ≤ MOST_ROUNDS }
+        ensures { OnOk result (events_in self.new ≡ events_in self.old ++ rounds count) }
+    {
+        let mut is_joined = false;
+        if let Some(mut last) = self.pieces.pop() {
+            is_joined = last.join_rounds(count);
+            self.pieces.push(last)?;
+        }
+        if !is_joined {
+            self.pieces.push(Piece::Rounds(count, false))?;
+        }
+        Ok(())
+    }
+
+    /// Adds rounds that were made next, each a step with a tick behind it. It fails as `add` does.
+    pub fn add_rounds(&mut self, count: u32) -> Result<(), AllocError>
+        ensures { OnOk result (events_in self.new ≡ events_in self.old ++ rounds count) }
+    {
+        let mut left = count;
+        while left > MOST_ROUNDS {
+            self.add_piece(MOST_ROUNDS)?;
+            left -= MOST_ROUNDS;
+        }
+        self.add_piece(left)
     }
 
     /// The pieces of the run.

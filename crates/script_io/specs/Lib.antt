@@ -2,7 +2,6 @@ pub mod Ports
 pub mod Transcripts
 pub mod Serves
 pub mod Hosts
-pub mod LentHosts
 pub mod Lines
 pub mod Endings
 pub mod Numbers

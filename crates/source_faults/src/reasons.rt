@@ -2,6 +2,7 @@
 
 use crate::values::Limit;
 use ka_isa::{Named, named};
+use left_out::left_out;
 use mac_text::{Wanted, folded};
 use shown_bytes::{FaultOf, Found, NOT_ASCII, Quoted};
 use std::{fmt, str};
@@ -110,7 +111,10 @@ fn write_syntax<W: fmt::Write>(
     let quoted = Quoted(found);
     match wanted {
         Wanted::Ascii => f.write_str(NOT_ASCII),
-        Wanted::Operation => write!(f, "{quoted} is not an operation of this assembler"),
+        Wanted::Operation => match left_out(folded(found).as_slice()) {
+            Some(reason) => write!(f, "{quoted} is not here: {reason}"),
+            None => write!(f, "{quoted} is not an operation of this assembler"),
+        },
         Wanted::Digits(radix) => {
             let sentence = no_number(found, radix);
             write!(f, "{quoted} {sentence}")
@@ -136,6 +140,10 @@ impl fmt::Display for Reason<'_> {
             Reason::Syntax(wanted, found) => write_syntax(f, wanted, found),
             Reason::NoLine => f.write_str("not a line of this assembler"),
             Reason::Unknown(name, is_statement) => {
+                if let Some(reason) = left_out(folded(name).as_slice()) {
+                    let name = Quoted(name);
+                    return write!(f, "{name} is not here: {reason}");
+                }
                 let name = Quoted(name);
                 let more = if is_statement {
                     ", and is no operation of this assembler"

@@ -2,28 +2,12 @@
 
 use crate::lines::{line_at, split_label};
 use crate::near_names::near_operation;
-use crate::not_here::INSTEAD;
 use mac_text::folded;
 use std::alloc::{AllocError, Global};
 use std::str;
 
-/// What to write in place of a word that neither MACRO-10 as it is here nor the subset has, if the word is one.
-fn instead_of(word: &[u8]) -> Option<&'static str> {
-    for (names, advice) in &INSTEAD {
-        for name in *names {
-            if word.eq_ignore_ascii_case(name.as_bytes()) {
-                return Some(advice);
-            }
-        }
-    }
-    None
-}
-
-/// Advice on a word that is no operation, if there is any: what to write instead, or the operation that was meant.
+/// Advice on a word that is no operation, if there is any: the operation that was meant.
 pub fn advice_on_word(alloc: Global, word: &[u8]) -> Result<Option<String>, AllocError> {
-    if let Some(advice) = instead_of(word) {
-        return Ok(Some(String::from_str(alloc, advice)?));
-    }
     match near_operation(alloc, word)? {
         Some(name) => Ok(Some(format!(in alloc; "did you mean {}?", name.as_str())?)),
         None => Ok(None),

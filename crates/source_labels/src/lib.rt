@@ -7,7 +7,6 @@ mod faults;
 mod labels;
 mod lines;
 mod near_names;
-mod not_here;
 mod places;
 mod sources;
 mod spots;

@@ -2,15 +2,15 @@
 
 use ka_isa::{mnemonic, named};
 use mac_text::folded;
+use macro_operations::{DIALECT, SUBSET};
 use std::alloc::{AllocError, Global};
 use std::str;
 
-/// The names of calls and statements, which are no operations.
-static OTHERS: [&str; 41] = [
+/// The names of calls, which are no operations.
+static CALLS: [&str; 28] = [
     "RESET", "CORE", "EXIT", "LOGOUT", "MSTIME", "PJOB", "SLEEP", "PIINI.", "PISYS.", "DEBRK.",
     "ENQ.", "DEQ.", "ENQC.", "DATRD.", "DATWR.", "MONRT.", "INCHRW", "OUTCHR", "INCHRS", "OUTSTR",
-    "INCHWL", "INCHSL", "CLRBFI", "CLRBFO", "SKPINC", "SKPINL", "HALT", "JRSTF", "ASCII", "ASCIZ",
-    "SIXBIT", "BLOCK", "LOC", "RADIX", "TITLE", "SUBTTL", "SEARCH", "END", "EXP", "IOWD", "POINT",
+    "INCHWL", "INCHSL", "CLRBFI", "CLRBFO", "SKPINC", "SKPINL", "HALT", "JRSTF",
 ];
 
 /// How many operations there are.
@@ -61,31 +61,54 @@ pub fn are_near(one: &[u8], other: &[u8]) -> bool {
     differs_in_place(one, other) || has_one_more(one, other) || has_one_more(other, one)
 }
 
+/// The statement that may have been meant by a word in upper case.
+fn near_statement(word: &[u8]) -> Option<&'static str> {
+    for (name, _) in SUBSET.iter().chain(&DIALECT) {
+        if is_near_operation(word, name.as_bytes()) {
+            return Some(*name);
+        }
+    }
+    None
+}
+
+/// The operation that may have been meant by a word in upper case.
+fn near_mnemonic(word: &[u8]) -> Option<&'static str> {
+    for operation in 0..OPERATIONS {
+        if let Some(name) = mnemonic(operation) {
+            if is_near_operation(word, name.as_bytes()) {
+                return Some(name);
+            }
+        }
+    }
+    None
+}
+
 /// The operation, call or statement that may have been meant by a word, which is none: the word with a point behind
-/// it, or one that differs by one slip.
+/// it, or without its last character, or one that differs by one slip.
 pub fn near_operation(alloc: Global, word: &[u8]) -> Result<Option<String>, AllocError> {
     let wanted = folded(word);
     let Ok(text) = str::from_utf8(wanted.as_slice()) else {
         return Ok(None);
     };
-    if word.is_empty() || named(text).is_some() || OTHERS.contains(&text) {
+    if word.is_empty() || named(text).is_some() {
         return Ok(None);
     }
     let pointed = format!(in alloc; "{text}.")?;
     if named(pointed.as_str()).is_some() {
         return Ok(Some(pointed));
     }
-    for other in &OTHERS {
-        if is_near_operation(wanted.as_slice(), other.as_bytes()) {
-            return Ok(Some(String::from_str(alloc, other)?));
+    let front = wanted.get(..wanted.len().saturating_sub(1)).unwrap_or(&[]);
+    let shorter = str::from_utf8(front).unwrap_or("");
+    if front.len() >= 3 && named(shorter).is_some() {
+        return Ok(Some(String::from_str(alloc, shorter)?));
+    }
+    for call in &CALLS {
+        if is_near_operation(wanted.as_slice(), call.as_bytes()) {
+            return Ok(Some(String::from_str(alloc, call)?));
         }
     }
-    for operation in 0..OPERATIONS {
-        if let Some(name) = mnemonic(operation) {
-            if is_near_operation(wanted.as_slice(), name.as_bytes()) {
-                return Ok(Some(String::from_str(alloc, name)?));
-            }
-        }
+    match near_statement(wanted.as_slice()).or(near_mnemonic(wanted.as_slice())) {
+        Some(name) => Ok(Some(String::from_str(alloc, name)?)),
+        None => Ok(None),
     }
-    Ok(None)
 }

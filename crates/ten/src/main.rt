@@ -3,6 +3,7 @@
 
 use program_shell::{Answers, Failure, LineReader, Terminal, arguments_or_status, report_failure};
 use script_io::{HostIn, HostOut};
+use std::io::IsTerminal;
 use std::process::ExitCode;
 use ten_program::{FAILURE_LINES, ten};
 
@@ -19,7 +20,7 @@ fn main(rt: HostRuntime) -> ExitCode {
     };
     let mut terminal = Terminal {
         rt: &rt,
-        is_person: false,
+        is_person: rt.stderr().is_terminal(),
         input,
         output: Answers::new(HostOut::new(rt.stdout())),
         errors: Answers::new(errors),

@@ -4,6 +4,7 @@ ghost use Rattle.ten_program.specs.Outputs.{HasOutputs};
 
 use crate::options::Options;
 use crate::texts;
+use crate::typing::Return;
 use clap::{Arg, ArgMatches, Command};
 use machine::{Config, MOST_QUANTUM};
 use program_files::{make_from, packing_in};
@@ -65,7 +66,13 @@ fn ten_command<'a>(alloc: Global) -> Result<Command<'a>, AllocError> {
     let with_history = with_locks.arg(make_option(alloc, "history", texts::HISTORY))?;
     let with_waits = with_history.arg(make_option(alloc, "waits", texts::WAITS))?;
     let with_echo = with_waits.arg(make_flag(alloc, "echo", texts::ECHO))?;
-    let with_faults = with_echo.arg(make_option(alloc, "max-errors", texts::MAX_ERRORS))?;
+    let with_return = with_echo.arg(
+        Arg::new(alloc, "return")
+            .long("return")
+            .value_name("FORM")
+            .help(texts::RETURN),
+    )?;
+    let with_faults = with_return.arg(make_option(alloc, "max-errors", texts::MAX_ERRORS))?;
     let with_picture = with_faults.arg(
         Arg::new(alloc, "picture")
             .long("picture")
@@ -86,7 +93,7 @@ fn options_in<'a>(alloc: Global, matches: &ArgMatches<'a>) -> Result<Options<'a>
     ensures { IfOk result HasOutputs }
 {
     let size = size_in(matches, MOST_QUANTUM)?;
-    let steps = number_of(matches, "steps", MOST_STEPS)?.unwrap_or(u64::MAX);
+    let steps = number_of(matches, "steps", MOST_STEPS)?;
     let history = number_of(matches, "history", MOST_HISTORY)?.unwrap_or(0);
     let waits = number_of(matches, "waits", MOST_STEPS)?;
     let faults = number_of(matches, "max-errors", MOST_FAULTS)?;
@@ -102,10 +109,20 @@ fn options_in<'a>(alloc: Global, matches: &ArgMatches<'a>) -> Result<Options<'a>
         picture: output_in(matches, "picture", PICTURE_END, files.as_slice())?,
         record: output_in(matches, "record", RECORD_END, files.as_slice())?,
         echo: matches.get_flag("echo"),
+        ending: return_in(matches)?,
         faults: faults.unwrap_or(MOST_REPORTED as u64) as usize,
         names: shown_names(alloc, files.as_slice())?,
         files,
     })
+}
+
+/// What ends a line that is typed.
+fn return_in<'a>(matches: &ArgMatches<'a>) -> Result<Return, Wrong<'a>> {
+    match matches.get_str("return") {
+        None | Some("crlf") => Ok(Return::CrLf),
+        Some("lf") => Ok(Return::Lf),
+        Some(_) => Err(Wrong::Other("invalid value for '--return <FORM>': crlf or lf is wanted")),
+    }
 }
 
 /// Names of files, as lines for a person show them.

@@ -3,9 +3,10 @@
 use crate::terminal::Terminal;
 use concrete_machine::Machine;
 use job_sched::{Stop, Wait};
+use ka_cpu::StopReason;
 use program_shell::PendingText;
 use run_facts::Standing;
-use run_notes::{TracedJob, standing_text};
+use run_notes::{IllegalText, TracedJob, snapshot_of, standing_text};
 use word36::Address;
 
 /// A job of a run.
@@ -36,20 +37,35 @@ fn report_spot(job: &TracedJob, place: Address, errors: &mut PendingText) {
 
 impl RunningJob {
     /// The address where it stands: of its next instruction where it still runs or was stopped by CTRL-C, and else of its last.
-    fn place(&self, standing: Standing) -> Address {
+    fn place(&self, machine: &Machine, standing: Standing) -> Address {
+        let last = self.traced.last;
         match standing {
-            Standing::Goes(Wait::None) | Standing::Stopped(Stop::Typed) => self.traced.next,
-            _ => self.traced.last,
+            Standing::Goes(Wait::None) | Standing::Stopped(Stop::Typed) => {
+                machine.job(self.traced.number).map_or(last, |view| view.pc)
+            }
+            _ => last,
         }
     }
 
-    /// Reports how it stands, and at which address.
+    /// Reports how it stands, and at which address; where it was stopped at an illegal instruction, which that is.
     fn report_standing(&self, machine: &Machine, standing: Standing, errors: &mut PendingText) {
         errors.say_made(standing_text(errors.alloc, machine, self.traced.number));
         if waits(standing) {
             errors.say(",");
         }
-        report_spot(&self.traced, self.place(standing), errors);
+        let place = self.place(machine, standing);
+        report_spot(&self.traced, place, errors);
+        if standing == Standing::Stopped(Stop::Fault(StopReason::IllegalInstruction)) {
+            let (alloc, found) = (
+                errors.alloc,
+                snapshot_of(machine, self.traced.number, place),
+            );
+            let illegal = IllegalText {
+                places: &self.traced.places,
+                word: found.executed,
+            };
+            errors.say_made(format!(in alloc; " ({illegal})"));
+        }
     }
 
     /// Reports how it stands, in a line that begins with its number and its source's file: `job 1, FILE: HALT at

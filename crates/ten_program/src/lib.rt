@@ -22,3 +22,4 @@ mod waits;
 pub use arguments::read_arguments;
 pub use options::Options;
 pub use program::{FAILURE_LINES, ten};
+pub use typing::Return;

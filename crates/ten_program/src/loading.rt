@@ -8,7 +8,7 @@ use image_files::Packing;
 use monitor::{Answer, Event, RefusedEvent};
 use program_files::read_program;
 use program_shell::PendingText;
-use run_notes::TracedJob;
+use run_notes::{TracedJob, login_refusal_text};
 use run_record::RunEvent;
 use source_labels::{Assembled, Program, Source, warnings_of};
 use word36::{Address, Image};
@@ -45,20 +45,6 @@ pub fn assemble_all<'a>(
     if are_right { Some(programs) } else { None }
 }
 
-/// Why a program cannot be logged in.
-fn refusal_text(refusal: RefusedEvent) -> &'static str {
-    match refusal {
-        RefusedEvent::NoCore => "it takes more blocks of core than are free",
-        RefusedEvent::BadImage => "it has no words",
-        RefusedEvent::NoLine => "there is no terminal line for it",
-        RefusedEvent::LineBusy => "its terminal line is taken",
-        RefusedEvent::NoJobNumber => "all job numbers are taken",
-        RefusedEvent::NoSuchJob => "there is no such job",
-        RefusedEvent::NotStopped => "it runs already",
-        RefusedEvent::Full => "its terminal line is full",
-    }
-}
-
 /// Logs a job in at a terminal line, and starts it: the first program at line 0, and so on. Gives its number, or why it is
 /// refused.
 fn log_in(
@@ -87,7 +73,6 @@ fn job_of(program: Program<'_>, number: u8, terminal: Terminal) -> RunningJob {
             number,
             places: program.places,
             last: start,
-            next: start,
         },
         terminal,
         steps: 0,
@@ -98,7 +83,7 @@ fn job_of(program: Program<'_>, number: u8, terminal: Terminal) -> RunningJob {
 fn report_refusal(file: &str, refusal: RefusedEvent, errors: &mut PendingText) {
     errors.say(file);
     errors.say(": ");
-    errors.say(refusal_text(refusal));
+    errors.say(login_refusal_text(refusal));
     errors.end_line();
 }
 

@@ -4,13 +4,12 @@ use crate::history::History;
 use crate::jobs::RunningJob;
 use crate::options::Options;
 use concrete_machine::Machine;
-use lock_queue::Request;
 use monitor::JobView;
 use program_shell::PendingText;
 use run_events::Fact;
 use run_notes::{
-    Snapshot, TracedJob, WaitClocks, call_line, circle_line, circle_of, grant_line, limit_line,
-    snapshot_of, step_line, time_limit_line,
+    Snapshot, TracedJob, WaitClocks, circle_line, circle_of, facts_text, snapshot_of, step_line,
+    time_limit_line,
 };
 use std::alloc::{AllocError, Global};
 
@@ -25,8 +24,6 @@ pub struct Notes {
     history: bool,
     /// The clocks of waits, if waits are reported.
     clocks: Option<WaitClocks>,
-    /// The requests for locks, as they were when they were last copied.
-    requests: Vec<Request>,
     /// A row for each job, by number from 1 on; none if no steps are reported.
     jobs: Vec<JobNotes>,
 }
@@ -41,7 +38,7 @@ struct JobNotes {
 }
 
 /// Reports the circle of waits that a job closed in this step, in which it began to wait for locks; if it closed one.
-pub fn report_circle(machine: &Machine, tick: u64, number: u8, errors: &mut PendingText) {
+fn report_circle(machine: &Machine, tick: u64, number: u8, errors: &mut PendingText) {
     let alloc = errors.alloc;
     match circle_of(alloc, machine, number) {
         Ok(Some(circle)) => errors.say_made(circle_line(alloc, tick, machine, circle.as_slice())),
@@ -87,7 +84,6 @@ impl Notes {
             locks: options.locks,
             history: options.history > 0,
             clocks,
-            requests: Vec::new(alloc),
             jobs: Vec::new(alloc),
         }
     }
@@ -107,7 +103,7 @@ impl Notes {
     ) -> Result<(), AllocError> {
         if self.watches_steps() {
             for job in jobs {
-                let next_step = snapshot_of(machine, job.traced.number, job.traced.next);
+                let next_step = snapshot_of(machine, job.traced.number, job.traced.last);
                 let history = History::new(alloc, options.history);
                 self.jobs.push(JobNotes { next_step, history })?;
             }
@@ -120,14 +116,17 @@ impl Notes {
         self.jobs.get_mut(usize::from(number).saturating_sub(1))
     }
 
-    /// Takes down what a job does next.
-    pub fn prepare(&mut self, machine: &Machine, job: &TracedJob) {
-        if let Some(notes) = self.notes_of(job.number) {
-            notes.next_step = snapshot_of(machine, job.number, job.next);
+    /// Takes down what a job does next, if it is there.
+    fn prepare(&mut self, machine: &Machine, number: u8) {
+        if let Some(notes) = self.notes_of(number) {
+            if let Some(view) = machine.job(number) {
+                notes.next_step = snapshot_of(machine, number, view.pc);
+            }
         }
     }
 
-    /// Reports a turn of a job, by what was taken down before it.
+    /// Reports a turn of a job, by what was taken down before it, and takes down what it does next.
+    #[inline(never)]
     pub fn report_turn(
         &mut self,
         machine: &Machine,
@@ -139,26 +138,38 @@ impl Notes {
         if let Some(notes) = self.notes_of(job.number) {
             notes.note_step(machine, tick, job, trace, errors);
         }
+        self.prepare(machine, job.number);
     }
 
-    /// Reports a fact of a step or a tick.
-    pub fn report_fact(&self, machine: &Machine, tick: u64, fact: &Fact, errors: &mut PendingText) {
-        if !self.locks {
-            return;
-        }
+    /// Reports the facts of a step or a tick, on the machine as it left it: lock calls, grants and limits, how long grants
+    /// took, and circles of waits.
+    #[inline(never)]
+    pub fn report_facts(
+        &mut self,
+        machine: &Machine,
+        tick: u64,
+        facts: &[Fact],
+        errors: &mut PendingText,
+    ) {
         let alloc = errors.alloc;
-        match fact {
-            Fact::Called(called) => errors.say_made(call_line(alloc, machine, tick, called)),
-            Fact::Granted(request) => errors.say_made(grant_line(alloc, tick, request)),
-            Fact::LimitEnded(job, id) => errors.say_made(limit_line(alloc, tick, *job, *id)),
-            _ => {}
+        if self.locks {
+            errors.say_made(facts_text(alloc, machine, tick, facts));
+        }
+        if let Some(clocks) = &mut self.clocks {
+            errors.say_made(clocks.note_all(alloc, tick, facts));
+        }
+        for fact in facts {
+            if let Fact::CircleClosed(job) = fact {
+                report_circle(machine, tick, *job, errors);
+            }
         }
     }
 
-    /// Reports, where each step is reported, that a job's wait for locks ended with its time limit. `after` is how
-    /// it stands now.
+    /// A job's time limit ended: reports that where each step is reported, and takes down what the job does next. `after` is
+    /// how it stands now.
     pub fn report_limit(
-        &self,
+        &mut self,
+        machine: &Machine,
         tick: u64,
         job: &TracedJob,
         after: &JobView,
@@ -167,42 +178,34 @@ impl Notes {
         if self.trace {
             errors.say_made(time_limit_line(errors.alloc, tick, job, after));
         }
+        self.prepare(machine, job.number);
     }
 
-    /// Reports how long grants took that came since the requests were last copied, and copies these anew.
-    pub fn report_waits(&mut self, machine: &Machine, tick: u64, errors: &mut PendingText) {
-        if let Some(clocks) = &mut self.clocks {
-            let alloc = errors.alloc;
-            let Ok(requests) = machine.requests(alloc) else {
-                errors.fail();
-                return;
-            };
-            let (before, now) = (self.requests.as_slice(), requests.as_slice());
-            errors.say_made(clocks.note(alloc, tick, before, now));
-            self.requests = requests;
-        }
+    /// Whether waits are measured.
+    pub fn has_clocks(&self) -> bool {
+        self.clocks.is_some()
     }
 
     /// In how many ticks the next wait is too long; a great number if none is.
     pub fn ticks_to_overdue(&self, tick: u64) -> u64 {
         match &self.clocks {
-            Some(clocks) => clocks.ticks_to_overdue(tick, self.requests.as_slice()),
+            Some(clocks) => clocks.ticks_to_overdue(tick),
             None => u64::MAX,
         }
     }
 
-    /// Reports jobs that wait for locks for longer than the options say.
-    pub fn report_overdue(&mut self, machine: &Machine, tick: u64, errors: &mut PendingText) {
-        if let Some(clocks) = &mut self.clocks {
-            let requests = self.requests.as_slice();
-            errors.say_made(clocks.overdue(errors.alloc, tick, machine, requests));
+    /// Reports the job that waits for locks for longer than the options say from this tick on, if there is one.
+    #[inline(never)]
+    pub fn report_overdue(&self, machine: &Machine, tick: u64, errors: &mut PendingText) {
+        if let Some(clocks) = &self.clocks {
+            errors.say_made(clocks.overdue(errors.alloc, tick, machine));
         }
     }
 
     /// Reports the table of waits by lock.
-    pub fn report_table(&mut self, tick: u64, errors: &mut PendingText) {
-        if let Some(clocks) = &mut self.clocks {
-            errors.say_made(clocks.table(errors.alloc, tick, self.requests.as_slice()));
+    pub fn report_table(&self, tick: u64, errors: &mut PendingText) {
+        if let Some(clocks) = &self.clocks {
+            errors.say_made(clocks.table(errors.alloc, tick));
         }
     }
 

@@ -1,5 +1,6 @@
 //! What the arguments ask for.
 
+use crate::typing::Return;
 use image_files::Packing;
 use machine::Config;
 
@@ -10,8 +11,8 @@ pub struct Options<'a> {
     pub config: Config,
     /// How the words of core images are packed.
     pub from: Packing,
-    /// The run ends after so many steps.
-    pub steps: u64,
+    /// The run ends after so many steps, if that is asked for.
+    pub steps: Option<u64>,
     /// Whether each step is reported.
     pub trace: bool,
     /// Whether each lock call and grant is reported.
@@ -26,6 +27,8 @@ pub struct Options<'a> {
     pub record: Option<&'a str>,
     /// Whether what is typed is written to the output too.
     pub echo: bool,
+    /// What ends each line that is typed.
+    pub ending: Return,
     /// So many faults of a source are reported.
     pub faults: usize,
     /// The names of the programs' files, 1 to 63: sources, and core images.

@@ -4,6 +4,9 @@ use concrete_machine::Machine;
 use lock_svg::RunCourse;
 use std::alloc::{AllocError, Global};
 
+/// A `RunCourse` has a column for each of so many first ticks. Later it has one where the locks may have changed.
+const DRAWN_TICKS: u64 = 2_000;
+
 /// The picture of a run, where one is asked for.
 #[derive(Drop)]
 pub struct Picture {
@@ -27,12 +30,18 @@ impl Picture {
         }
     }
 
-    /// Whether the run is drawn.
-    pub fn is_drawn(&self) -> bool {
-        self.course.is_some()
+    /// Whether each tick is drawn, at this tick of the run.
+    pub fn draws_each(&self, tick: u64) -> bool {
+        self.course.is_some() && tick < DRAWN_TICKS
+    }
+
+    /// Whether something is drawn behind the step of this tick.
+    pub fn wants(&self, tick: u64) -> bool {
+        self.course.is_some() && (self.may_differ || tick < DRAWN_TICKS)
     }
 
     /// Draws how the locks stand behind the step of this tick, where that is asked for.
+    #[inline(never)]
     pub fn draw(&mut self, alloc: Global, machine: &Machine, tick: u64) -> Result<(), AllocError> {
         if let Some(course) = &mut self.course {
             course.look(alloc, tick, self.may_differ, machine.locks())?;

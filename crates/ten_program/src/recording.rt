@@ -1,4 +1,6 @@
 //! A run that is recorded, to be obeyed again by `lockmon run`.
+ghost use Rattle.std.specs.Prelude.{◌≤◌};
+ghost use Rattle.run_record.specs.declared.pieces.TheConstants.{MOST_ROUNDS};
 
 use machine::Config;
 use program_files::is_image_name;
@@ -50,11 +52,12 @@ impl Recording {
     }
 
     /// Takes down so many steps, each with its tick, where that is recorded.
-    pub fn add_rounds(&mut self, rounds: u64) {
-        if self.events.is_some() {
-            for _ in 0..rounds {
-                self.add(RunEvent::Step);
-                self.add(RunEvent::Tick);
+    pub fn add_rounds(&mut self, rounds: u32)
+        requires { rounds ≤ MOST_ROUNDS }
+    {
+        if let Some(events) = &mut self.events {
+            if rounds > 0 {
+                self.is_whole &= events.add_rounds(rounds).is_ok();
             }
         }
     }

@@ -1,10 +1,11 @@
 //! A run of programs: its jobs, and what is typed, reported and drawn.
 
 ghost use Rattle.std.specs.Prelude.{◌≤◌};
+ghost use Rattle.run_record.specs.declared.pieces.TheConstants.{MOST_ROUNDS};
 
 use crate::jobs::RunningJob;
 use crate::loading::{assemble_all, log_in_all};
-use crate::notes::{Notes, report_circle};
+use crate::notes::Notes;
 use crate::options::Options;
 use crate::picture::Picture;
 use crate::recording::{Recording, are_quotable};
@@ -16,16 +17,17 @@ use machine::MOST_TAKES;
 use monitor::{Answer, Event};
 use program_shell::PendingText;
 use run_events::{Fact, RoundsMade};
-use run_facts::{Ending, has_ended_well, status_of};
+use run_facts::{Cut, Ending, UNASKED_CUT, has_ended_well, status_of};
 use run_notes::{has_circle, standing_of};
-use run_record::RunEvent;
+use run_record::{MOST_ROUNDS, RunEvent};
 use source_labels::Source;
 use std::alloc::{AllocError, Global};
 use uuo_calls::BlockRoom;
 use word36::{Address, Image, TAKEN_AT_ONCE};
 
-/// So many rounds are made at once at most.
-const MOST_AT_ONCE: u64 = 1_000_000;
+/// What is reported of a run that was cut though no steps were asked for.
+const CUT_TEXT: &str =
+    "ten: a hundred million steps were made, and jobs go on; --steps N makes N steps\n";
 
 /// A run of programs: its jobs, and what is typed, reported and drawn. The machine stands beside it.
 #[derive(Drop)]
@@ -52,15 +54,6 @@ pub struct Session {
     pub recording: Recording,
 }
 
-/// A job's turn.
-#[derive(Clone, Copy)]
-pub struct Turn {
-    /// The number of the job.
-    job: u8,
-    /// Whether it made a monitor call.
-    has_called: bool,
-}
-
 /// Takes what a job has typed out; false where there is nothing.
 fn take_output(machine: &mut Machine, terminal: &mut Terminal, output: &mut PendingText) -> bool {
     // An event may hold an image, of which these have none: the prover wants its type to be named.
@@ -82,11 +75,22 @@ fn take_output(machine: &mut Machine, terminal: &mut Terminal, output: &mut Pend
 
 /// What some rounds came to.
 #[derive(Clone, Copy)]
-pub struct StepMade {
+struct RoundsEnd {
     /// How many they are.
+    made: u64,
+    /// The job that ran in them, if one was ready.
+    job: Option<u8>,
+    /// Whether a job ran, made no monitor call, and there are no facts.
+    is_quiet: bool,
+}
+
+/// How far a run went on.
+#[derive(Clone, Copy)]
+pub struct Progress {
+    /// How many rounds were made.
     pub made: u64,
-    /// The turn of the last, if a job was ready.
-    pub turn: Option<Turn>,
+    /// Whether a job can go on.
+    pub goes_on: bool,
 }
 
 impl Session {
@@ -94,7 +98,7 @@ impl Session {
     pub fn new(alloc: Global, options: &Options<'_>) -> Self {
         Session {
             jobs: Vec::new(alloc),
-            typing: Typing::new(alloc),
+            typing: Typing::new(alloc, options.ending),
             output: PendingText::new(alloc),
             errors: PendingText::new(alloc),
             room: BlockRoom::new(),
@@ -150,30 +154,32 @@ impl Session {
     /// How many of so many rounds may be made at once: one, if each step is looked at, and else up to the tick at which
     /// a wait is too long.
     fn most_at_once(&self, wanted: u64) -> u32
-        ensures { 1 ≤ result }
+        ensures some { 1 ≤ result }
+        ensures most { result ≤ MOST_ROUNDS }
     {
-        if self.notes.watches_steps() || self.picture.is_drawn() {
+        if self.notes.watches_steps() || self.picture.draws_each(self.ticks) {
             return 1;
         }
         let most = wanted.min(self.notes.ticks_to_overdue(self.ticks));
         if most == 0 {
             1
-        } else if most > MOST_AT_ONCE {
-            MOST_AT_ONCE as u32
+        } else if most > u64::from(MOST_ROUNDS) {
+            MOST_ROUNDS
         } else {
             most as u32
         }
     }
 
-    /// Makes the next rounds but for the last tick, `most` at most: those of one job, up to the first step by which
-    /// there may be something to report. What the job typed out is in `output`, to be written now.
-    pub fn step(&mut self, machine: &mut Machine, most: u64) -> StepMade {
-        let most = self.most_at_once(most);
+    /// Makes the next rounds but for the last tick, `wanted` at most: those of one job, up to the first that may have a
+    /// fact. What the job typed out by a call is in `output`.
+    fn make_rounds(&mut self, machine: &mut Machine, wanted: u64) -> RoundsEnd {
+        let most = self.most_at_once(wanted);
         let Ok(rounds) = machine.rounds_facts(self.errors.alloc, &mut self.room, most) else {
             self.errors.fail();
-            return StepMade {
+            return RoundsEnd {
                 made: 1,
-                turn: None,
+                job: None,
+                is_quiet: false,
             };
         };
         let RoundsMade {
@@ -183,40 +189,58 @@ impl Session {
             at,
             facts,
         } = rounds;
-        let made = u64::from(made);
         self.facts = facts;
         self.recording.add_rounds(made.saturating_sub(1));
         self.recording.add(RunEvent::Step);
-        self.ticks = self.ticks.saturating_add(made.saturating_sub(1));
-        match job {
-            Some(job) => {
-                let turn = Turn { job, has_called };
-                self.note_step(machine, turn, made, at);
-                StepMade {
-                    made,
-                    turn: Some(turn),
-                }
+        self.ticks = self.ticks.saturating_add(u64::from(made.saturating_sub(1)));
+        if let Some(number) = job {
+            self.note_steps(number, u64::from(made), at);
+            if has_called {
+                // A call may give up requests that nobody waits behind, of which there is no fact.
+                self.picture.may_differ = true;
+                self.take_output(machine, number);
             }
-            None => StepMade { made, turn: None },
+        }
+        RoundsEnd {
+            made: u64::from(made),
+            job,
+            is_quiet: job.is_some() && !has_called && self.facts.is_empty(),
         }
     }
 
-    /// A job ran: counts its steps, and takes what it typed out by a call. `at` is its PC before the last step.
-    fn note_step(&mut self, machine: &mut Machine, turn: Turn, steps: u64, at: Address) {
-        let Some(job) = self.jobs.get_mut(usize::from(turn.job).saturating_sub(1)) else {
-            return;
-        };
-        job.steps = job.steps.saturating_add(steps);
-        job.traced.last = at;
-        if let Some(view) = machine.job(turn.job) {
-            job.traced.next = view.pc;
+    /// Counts steps of a job. `at` is its PC before the last of them.
+    fn note_steps(&mut self, number: u8, steps: u64, at: Address) {
+        if let Some(job) = self.jobs.get_mut(usize::from(number).saturating_sub(1)) {
+            job.steps = job.steps.saturating_add(steps);
+            job.traced.last = at;
         }
-        if turn.has_called {
-            self.take_output(machine, turn.job);
+    }
+
+    /// Makes rounds, `most` at most, up to the first by which there may be something to type, to write or to report. What
+    /// the jobs typed out is in `output`, and what is reported in `errors`, to be written now.
+    pub fn advance(&mut self, machine: &mut Machine, most: u64) -> Progress {
+        let mut made = 0u64;
+        for _ in 0..most {
+            let end = self.make_rounds(machine, most.saturating_sub(made));
+            made = made.saturating_add(end.made);
+            let goes_on = self.end_round(machine, end.job);
+            if !goes_on || !end.is_quiet || made >= most || self.has_report() {
+                return Progress { made, goes_on };
+            }
         }
+        Progress {
+            made,
+            goes_on: true,
+        }
+    }
+
+    /// Whether something is to be reported, or memory was missing for that.
+    fn has_report(&self) -> bool {
+        !self.errors.as_bytes().is_empty() || !self.errors.is_whole()
     }
 
     /// Takes what a job typed out, and looks whether it waits for characters now.
+    #[inline(never)]
     fn take_output(&mut self, machine: &mut Machine, number: u8) {
         let Some(job) = self.jobs.get_mut(usize::from(number).saturating_sub(1)) else {
             return;
@@ -234,21 +258,51 @@ impl Session {
         }
     }
 
-    /// Reports the turn of a step, and lets a tick go by; false if no job can go on.
-    pub fn end_round(&mut self, machine: &mut Machine, turn: Option<Turn>) -> bool {
-        match turn {
-            Some(turn) => self.report_turn(machine, turn),
+    /// Reports the last round of a job, or that no job was ready, and lets its tick go by; false if no job can go on.
+    fn end_round(&mut self, machine: &mut Machine, job: Option<u8>) -> bool {
+        match job {
+            Some(number) if self.notes.watches_steps() => self.report_turn(machine, number),
+            Some(_) => {}
             None => {
                 if !self.can_go_on(machine) {
                     return false;
                 }
             }
         }
-        let alloc = self.errors.alloc;
-        if self.picture.draw(alloc, machine, self.ticks).is_err() {
+        if !self.facts.is_empty() {
+            self.report_facts(machine);
+        }
+        if self.picture.wants(self.ticks)
+            && self
+                .picture
+                .draw(self.errors.alloc, machine, self.ticks)
+                .is_err()
+        {
             self.errors.fail();
         }
-        let Ok(facts) = machine.tick_facts(alloc) else {
+        self.tick(machine)
+    }
+
+    /// Reports a job's turn, and takes down what it does next.
+    fn report_turn(&mut self, machine: &Machine, number: u8) {
+        let tick = self.ticks;
+        if let Some(job) = self.jobs.get(usize::from(number).saturating_sub(1)) {
+            self.notes
+                .report_turn(machine, tick, &job.traced, &mut self.errors);
+        }
+    }
+
+    /// Reports the facts of a step. Requests may be others since then.
+    fn report_facts(&mut self, machine: &Machine) {
+        let facts = self.facts.as_slice();
+        self.notes
+            .report_facts(machine, self.ticks, facts, &mut self.errors);
+        self.picture.may_differ = true;
+    }
+
+    /// Lets a tick go by, and reports its facts and the wait that is too long now; false where there is no memory.
+    fn tick(&mut self, machine: &mut Machine) -> bool {
+        let Ok(facts) = machine.tick_facts(self.errors.alloc) else {
             self.errors.fail();
             return false;
         };
@@ -257,66 +311,36 @@ impl Session {
         if !facts.is_empty() {
             self.report_limits(machine, facts.as_slice());
         }
-        self.notes
-            .report_overdue(machine, self.ticks, &mut self.errors);
+        if self.notes.has_clocks() {
+            self.notes
+                .report_overdue(machine, self.ticks, &mut self.errors);
+        }
         true
     }
 
-    /// Reports a job's turn, and takes down what it does next.
-    fn report_turn(&mut self, machine: &Machine, turn: Turn) {
-        let tick = self.ticks;
-        if let Some(job) = self.jobs.get(usize::from(turn.job).saturating_sub(1)) {
-            let traced = &job.traced;
-            self.notes
-                .report_turn(machine, tick, traced, &mut self.errors);
-            self.notes.prepare(machine, traced);
-        }
-        if turn.has_called {
-            self.report_call(machine);
-        }
-    }
-
-    /// Reports the facts of a call. Requests may be others since then.
-    fn report_call(&mut self, machine: &Machine) {
-        let tick = self.ticks;
-        for fact in self.facts.as_slice() {
-            self.notes
-                .report_fact(machine, tick, fact, &mut self.errors);
-        }
-        self.picture.may_differ = true;
-        self.notes.report_waits(machine, tick, &mut self.errors);
-        for fact in self.facts.as_slice() {
-            if let Fact::CircleClosed(job) = fact {
-                report_circle(machine, tick, *job, &mut self.errors);
-            }
-        }
-    }
-
     /// Reports the facts of a tick. If a job's time limit ended, the tick set the job back to the error return of its
-    /// call: takes down what it does next.
+    /// call.
+    #[inline(never)]
     fn report_limits(&mut self, machine: &Machine, facts: &[Fact]) {
         let tick = self.ticks;
         for fact in facts {
             if let Fact::LimitEnded(number, _) = fact {
                 self.set_back(machine, *number);
             }
-            self.notes
-                .report_fact(machine, tick, fact, &mut self.errors);
         }
+        self.notes
+            .report_facts(machine, tick, facts, &mut self.errors);
         self.picture.may_differ = true;
-        self.notes.report_waits(machine, tick, &mut self.errors);
     }
 
-    /// A job's time limit ended: reports that with its steps, and takes down what it does next.
+    /// A job's time limit ended: reports that with its steps.
     fn set_back(&mut self, machine: &Machine, number: u8) {
-        let Some(job) = self.jobs.get_mut(usize::from(number).saturating_sub(1)) else {
+        let Some(job) = self.jobs.get(usize::from(number).saturating_sub(1)) else {
             return;
         };
         if let Some(view) = machine.job(number) {
-            job.traced.next = view.pc;
             self.notes
-                .report_limit(self.ticks, &job.traced, &view, &mut self.errors);
-            self.notes.prepare(machine, &job.traced);
+                .report_limit(machine, self.ticks, &job.traced, &view, &mut self.errors);
         }
     }
 
@@ -334,9 +358,9 @@ impl Session {
         }
     }
 
-    /// Reports how each job stands, and gives the exit status. `is_cut` where the run made as many steps as it
+    /// Reports how each job stands, and gives the exit status. `cut` says whether the run made as many steps as it
     /// was to make; `names` are those of the files of the jobs' sources.
-    pub fn report_ends(&mut self, machine: &Machine, names: &[String], is_cut: bool) -> u8 {
+    pub fn report_ends(&mut self, machine: &Machine, names: &[String], cut: Cut) -> u8 {
         if !self.output.is_line_whole() {
             self.errors.end_line();
         }
@@ -355,9 +379,13 @@ impl Session {
         }
         let ending = Ending {
             has_circle: has_circle(machine),
-            is_cut,
+            cut,
         };
-        status_of(ending, standings.as_slice())
+        let status = status_of(ending, standings.as_slice());
+        if status == UNASKED_CUT {
+            self.errors.say(CUT_TEXT);
+        }
+        status
     }
 
     /// The picture of the run as SVG, if it is asked for.

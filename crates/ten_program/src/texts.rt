@@ -12,10 +12,11 @@ pub const PROGRAM_END: &str = "As in:  ten examples/counter.mac\n\
     point behind (27. is 33 in a source); addresses, words, registers and user codes are in octal.\n\
     Status: 0 all jobs ended by EXIT, LOGOUT or HALT; 1 a source was refused, or a job was left waiting\n\
     or stopped by CTRL-C; 2 wrong words; 3 reading, writing or memory failed; 4 jobs wait for each\n\
-    other in a circle; 5 the run ended by --steps; 6 the processor stopped a job at a fault.";
+    other in a circle; 5 the run ended by --steps; 6 the processor stopped a job at a fault;\n\
+    7 the run ended after a hundred million steps, and --steps was not there.";
 
 /// `--steps`.
-pub const STEPS: &str = "ends the run after so many steps";
+pub const STEPS: &str = "ends the run after so many steps [default: 100000000]";
 
 /// `--trace`.
 pub const TRACE: &str =
@@ -35,6 +36,10 @@ pub const WAITS: &str =
 
 /// `--echo`.
 pub const ECHO: &str = "writes what is typed to standard output too, before what the jobs answer";
+
+/// `--return`.
+pub const RETURN: &str =
+    "what each line of the input ends with where it is typed: crlf, as a RETURN does, or lf [default: crlf]";
 
 /// `--max-errors`.
 pub const MAX_ERRORS: &str =

@@ -14,9 +14,20 @@ use std::alloc::{AllocError, Global};
 use tty_lines::Char7;
 use word36::{Image, JOBS};
 
+/// What a RETURN types behind a line.
+#[derive(Clone, Copy, Debug, PartialEq, Eq)]
+pub enum Return {
+    /// CR and LF, as the monitor hands a RETURN to a job.
+    CrLf,
+    /// LF alone.
+    Lf,
+}
+
 /// What is typed at the terminals of a run.
 #[derive(Drop)]
 pub struct Typing {
+    /// What ends each line.
+    ending: Return,
     /// The line of the input that is being typed.
     pub text: Vec<u8>,
     /// The position in it from which on it was not yet typed.
@@ -55,8 +66,9 @@ fn target_among<'t>(jobs: &[RunningJob], text: &'t [u8]) -> Target<'t>
 
 impl Typing {
     /// Nothing was typed yet, and no job waits for it.
-    pub fn new(alloc: Global) -> Self {
+    pub fn new(alloc: Global, ending: Return) -> Self {
         Typing {
+            ending,
             text: Vec::new(alloc),
             typed: 0,
             line: 0,
@@ -89,13 +101,16 @@ impl Typing {
         self.is_awaited
     }
 
-    /// Begins to type `text`, a line of the input without its end, at the terminal line that it names.
+    /// Begins to type `text`, a line of the input without its end, and a RETURN, at the terminal line that it names.
     pub fn begin(
         &mut self,
         machine: &mut Machine,
         jobs: &[RunningJob],
         recording: &mut Recording,
     ) -> Result<(), AllocError> {
+        if self.ending == Return::CrLf {
+            self.text.push(b'\r')?;
+        }
         self.text.push(b'\n')?;
         let target = target_among(jobs, self.text.as_slice());
         let (line, rest) = (target.line, target.text.len());

@@ -11,7 +11,7 @@ use crate::service::{Service, service_of};
 use call_block::{Block, BlockHead, fill_block};
 use core_store::CoreStore;
 use job_sched::{Job, JobTable};
-use ka_cpu::{Accumulator, CoreWords, JobMemory, Regs};
+use ka_cpu::{Accumulator, CoreWords, ReadMemory, Regs};
 use lock_queue::{BlockUse, Refusal, Wants};
 use std::marker::Model;
 use word36::{Address, Word};
@@ -90,7 +90,7 @@ impl BlockRoom {
 
     /// Reads the block that a lock call reads, if it reads one.
     #[inline(never)]
-    fn read<M: JobMemory>(
+    fn read<M: ReadMemory>(
         &mut self,
         regs: &Regs,
         memory: &mut M,
@@ -140,24 +140,21 @@ fn block_use(service: LockService, function: u32) -> Option<BlockUse>
 }
 
 /// What a job asks by a lock call with this AC field; its block is left in `room`.
-fn asked_with<C: CoreStore>(
+fn asked_with<M: ReadMemory>(
     number: u8,
     ac: Accumulator,
     job: &Job,
-    cores: &mut C,
+    memory: &mut M,
     service: LockService,
     room: &mut BlockRoom,
 ) -> Asked
-    requires number { IsJob number }
     ensures asked { result ≡ asked_with ac job.now service }
-    ensures block { room.new ≡ block_with number ac job.now (core_of (C.meaning cores.old) number) service }
-    ensures cores { C.meaning cores.new ≡ C.meaning cores.old }
+    ensures block { room.new ≡ block_with number ac job.now (M.words memory.old) service }
+    ensures same { memory.new ≡ memory.old }
 {
     let word = job.regs.ac[ac.index()];
-    let words = cores.window(number);
-    let mut window = CoreWords { words };
     let used = block_use(service, word.left());
-    room.read(&job.regs, &mut window, number, word, used);
+    room.read(&job.regs, memory, number, word, used);
     Asked {
         service,
         ac: ac.number(),
@@ -165,24 +162,23 @@ fn asked_with<C: CoreStore>(
     }
 }
 
-/// What a job asks of the lock queue by a call that it is about to make, if it is a lock call; its block is left
-/// in `room`.
-fn asked_if<C: CoreStore>(
+/// What a job with this memory asks of the lock queue by a call that it is about to make, if it is a lock call; its
+/// block is left in `room`.
+pub fn asked_by<M: ReadMemory>(
     number: u8,
     call: MonitorCall,
     job: &Job,
-    cores: &mut C,
+    memory: &mut M,
     room: &mut BlockRoom,
 ) -> Option<Asked>
-    requires number { IsJob number }
     ensures asked { result ≡ asked_if call.ac job.now (lock_service (service_of call.kind call.ac call.e)) }
     ensures block { room.new
-        ≡ block_if number call.ac job.now (core_of (C.meaning cores.old) number) (lock_service (service_of call.kind call.ac call.e)) }
-    ensures cores { C.meaning cores.new ≡ C.meaning cores.old }
+        ≡ block_if number call.ac job.now (M.words memory.old) (lock_service (service_of call.kind call.ac call.e)) }
+    ensures same { memory.new ≡ memory.old }
 {
     let MonitorCall { kind, ac, e } = call;
     match lock_service(service_of(kind, ac, e)) {
-        Some(service) => Some(asked_with(number, ac, job, cores, service, room)),
+        Some(service) => Some(asked_with(number, ac, job, memory, service, room)),
         None => {
             room.clear();
             None
@@ -205,7 +201,11 @@ pub(crate) fn asked_in<C: CoreStore>(
     ensures cores { C.meaning cores.new ≡ C.meaning cores.old }
 {
     match table.job(number) {
-        Some(job) => asked_if(number, call, job, cores, room),
+        Some(job) => {
+            let words = cores.window(number);
+            let mut window = CoreWords { words };
+            asked_by(number, call, job, &mut window, room)
+        }
         None => {
             room.clear();
             None

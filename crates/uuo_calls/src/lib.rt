@@ -20,7 +20,7 @@ mod service;
 mod status;
 mod world;
 
-pub use asked::{Asked, BlockRoom, LockService};
+pub use asked::{Asked, BlockRoom, LockService, asked_by};
 pub use call::{CallEnd, CallOutcome, MonitorCall};
 pub use calls::{perform, remove_job};
 pub use core_call::JBREL;

@@ -11,9 +11,9 @@ abbrev pub invariant-loop-position : goal.invariant-loop-position
 invariant-loop-position g l =
     record {
       read :
-          wants_at l.fn.regs.ac (g.M.JobMemory.words l.fn.memory) l.fn.job l.fn.block_use l.fn.first l.fn.count
+          wants_at l.fn.regs.ac (g.M.ReadMemory.words l.fn.memory) l.fn.job l.fn.block_use l.fn.first l.fn.count
           ≡ behind (take l.position l.wants.items)
-          (wants_at l.fn.regs.ac (g.M.JobMemory.words l.fn.memory) l.fn.job l.fn.block_use (l.fn.first + 3 * l.position) (l.fn.count - l.position));
+          (wants_at l.fn.regs.ac (g.M.ReadMemory.words l.fn.memory) l.fn.job l.fn.block_use (l.fn.first + 3 * l.position) (l.fn.count - l.position));
       long : l.position ≤ array_vec_len l.wants;
       unshared : list_all shares_rightly (take l.position l.wants.items) ≡ true;
     }

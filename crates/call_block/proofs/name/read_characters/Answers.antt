@@ -29,6 +29,6 @@ loop-count-preserved g c =
       read = rw pushed (more _ _ _ _ 31 _ _ _ _ c.loop-count-test.true c.loop-count.invariant.read c.increment-pointer.ensures.value at c.if-character-eq0.false);
       counted = rw (pushed, length_push) (ap (λ n. n + 1) c.loop-count.invariant.counted);
       size = c.increment-pointer.ensures.size;
-      word = c.next_word-word.ensures ∙ ap (λ (r : ℕ). word_at c.args.regs.now.ac (g.M.JobMemory.words c.args.memory.now) (right_half r))
+      word = c.next_word-word.ensures ∙ ap (λ (r : ℕ). word_at c.args.regs.now.ac (g.M.ReadMemory.words c.args.memory.now) (right_half r))
           (sym c.increment-pointer.ensures.value);
     }

@@ -8,9 +8,9 @@ use Rattle.call_block.proofs.name.read_characters.Given as goal
 abbrev pub invariant-loop-count : goal.invariant-loop-count
 invariant-loop-count g l =
     record {
-      read : characters l.fn.regs.ac (g.M.JobMemory.words l.fn.memory) l.fn.pointer 31 ≡ map Some l.text ++ characters l.fn.regs.ac
-          (g.M.JobMemory.words l.fn.memory) l.pointer (31 - l._count);
+      read : characters l.fn.regs.ac (g.M.ReadMemory.words l.fn.memory) l.fn.pointer 31 ≡ map Some l.text ++ characters l.fn.regs.ac
+          (g.M.ReadMemory.words l.fn.memory) l.pointer (31 - l._count);
       counted : length l.text ≡ l._count;
       size : size_of l.pointer ≡ 7;
-      word : l.word ≡ word_at l.fn.regs.ac (g.M.JobMemory.words l.fn.memory) (right_half l.pointer);
+      word : l.word ≡ word_at l.fn.regs.ac (g.M.ReadMemory.words l.fn.memory) (right_half l.pointer);
     }

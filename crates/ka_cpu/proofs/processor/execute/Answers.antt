@@ -14,7 +14,7 @@ use Rattle.ka_cpu.proofs.processor.execute.Goals as goal
 
 pub returns-in-Some-clause-after : goal.returns-in-Some-clause-after
 returns-in-Some-clause-after g c =
-    let words = g.M.JobMemory.words in
+    let words = g.M.ReadMemory.words in
     let core = words c.words.memory in
     let here = words c.args.memory.now in
     let p : c.operation-op.result ≡ op_of c.words.word = c.operation-op.ensures.value in
@@ -35,7 +35,7 @@ returns-in-Some-clause-after g c =
 
 pub returns-in-Err-find_executed-clause-after : goal.returns-in-Err-find_executed-clause-after
 returns-in-Err-find_executed-clause-after g c =
-    let words = g.M.JobMemory.words in
+    let words = g.M.ReadMemory.words in
     let kept = c.in_default.ensures.kept refl in
     let at : c.new-instruction.result.op ≡ c.operation-op.result = ap (λ (n : Instruction). n.op) c.new-instruction.ensures in
     let f : family_of c.operation-op.result ≡ Xct = ap family_of (sym at) ∙ c.in_default.ensures.none.0 refl in
@@ -46,7 +46,7 @@ returns-in-Err-find_executed-clause-after g c =
 
 pub words-preserved : goal.words-preserved
 words-preserved g c =
-    let words = g.M.JobMemory.words in
+    let words = g.M.ReadMemory.words in
     let kept = c.in_default.ensures.kept refl in
     let at : c.new-instruction.result.op ≡ c.operation-op.result = ap (λ (n : Instruction). n.op) c.new-instruction.ensures in
     let f : family_of c.operation-op.result ≡ Xct = ap family_of (sym at) ∙ c.in_default.ensures.none.0 refl in

@@ -6,10 +6,10 @@ use Rattle.ka_cpu.proofs.processor.execute.Given as goal
 abbrev pub invariant-words : goal.invariant-words
 invariant-words g l = record {
   regs : l.regs ≡ l.fn.regs;
-  core : g.M.JobMemory.words l.memory ≡ g.M.JobMemory.words l.fn.memory;
+  core : g.M.ReadMemory.words l.memory ≡ g.M.ReadMemory.words l.fn.memory;
   place : g.M.JobMemory.place l.memory ≡ g.M.JobMemory.place l.fn.memory;
-  behind : word_behind MOST_EXECUTES l.fn.regs.ac (g.M.JobMemory.words l.fn.memory) l.word
-      ≡ word_behind MOST_EXECUTES l.fn.regs.ac (g.M.JobMemory.words l.fn.memory) l.fn.word;
+  behind : word_behind MOST_EXECUTES l.fn.regs.ac (g.M.ReadMemory.words l.fn.memory) l.word
+      ≡ word_behind MOST_EXECUTES l.fn.regs.ac (g.M.ReadMemory.words l.fn.memory) l.fn.word;
 }
 
 -- the word behind an XCT is none

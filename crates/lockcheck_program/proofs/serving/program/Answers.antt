@@ -1,4 +1,4 @@
-use Rattle.std.proofs.Common.{inl, subst}
+use Rattle.std.proofs.Common.{inl, inr, map, refl, subst}
 use Rattle.lockcheck_program.specs.Checks.{Checks}
 use Rattle.lockcheck_program.proofs.serving.program.Goals as goal
 
@@ -19,6 +19,7 @@ returns-in-Ok-read_script g c =
     inl
     (record {
       options = c.in-Ok.options;
+      asked = c.in-Ok.ensures.asked;
       script = c.in-Ok-read_script.script.items;
       read = c.in-Ok-read_script.ensures.script;
       checks =
@@ -26,3 +27,17 @@ returns-in-Ok-read_script g c =
           (subst (λ e. Checks Looks w u c.as_slice.result.now states all o o' failed e e' errors_failed status) c.in-Ok-read_script.ensures.quiet
           c.check_script.ensures);
     })
+
+pub returns : goal.returns
+returns g c =
+    inr
+    (inl
+    (record {
+      options = c.in-Ok.options;
+      asked = c.in-Ok.ensures.asked;
+      unread = c.in-Err-read_script.ensures.unread;
+      unwritten = refl;
+    }))
+
+pub returns-in-Err : goal.returns-in-Err
+returns-in-Err g c = inr (inr (refl, c.refuse_arguments.ensures (map g.S.AsStr.text c.args.arguments.now) c.in-Err.ensures.due))

@@ -7,7 +7,7 @@ use Rattle.ka_cpu.proofs.memory.JobMemory.copy_words.Goals.{in-Some, in_default}
 
 pub loop-i-preserved : goal.loop-i-preserved
 loop-i-preserved g c =
-    let words = g.Self.JobMemory.words in
+    let words = g.Self.ReadMemory.words in
     let now = words c.loop-i.self in
     let i = c.loop-i.i in
     let h : i < c.args.count = c.loop-i-test.true in

@@ -4,7 +4,7 @@ use Rattle.ka_cpu.proofs.memory.JobMemory.copy_words.Given as goal
 
 abbrev pub invariant-loop-i : goal.invariant-loop-i
 invariant-loop-i g l = record {
-  copied : copied (l.count - l.i) (g.Self.JobMemory.words l.self) (l.from + l.i) (l.to + l.i) ≡ copied l.count (g.Self.JobMemory.words l.fn.self) l.from l.to;
-  size : length (g.Self.JobMemory.words l.self) ≡ length (g.Self.JobMemory.words l.fn.self);
+  copied : copied (l.count - l.i) (g.Self.ReadMemory.words l.self) (l.from + l.i) (l.to + l.i) ≡ copied l.count (g.Self.ReadMemory.words l.fn.self) l.from l.to;
+  size : length (g.Self.ReadMemory.words l.self) ≡ length (g.Self.ReadMemory.words l.fn.self);
   place : g.Self.JobMemory.place l.self ≡ g.Self.JobMemory.place l.fn.self;
 }
