@@ -37,7 +37,7 @@ if command -v pkg-config >/dev/null; then
     cc examples/library/turns.c $words -o "$folder/turns" || say "turns.c does not compile"
     "$folder/turns" | cmp -s - examples/library/turns.out || say "turns.c writes something else"
 fi
-if command -v aarch64-linux-gnu-gcc >/dev/null && command -v qemu-aarch64-static >/dev/null; then
+if aarch64-linux-gnu-gcc -x c -fsyntax-only - <<<'#include <stdlib.h>' 2>/dev/null && command -v qemu-aarch64-static >/dev/null; then
     ./install --target aarch64 "$folder/aarch64" 2>"$folder/told" || { cat "$folder/told" >&2; exit 1; }
     aarch64-linux-gnu-gcc -static -I"$folder/aarch64/include/hirvodas" examples/library/turns.c "$folder/aarch64/lib/libhirvodas-locks.a" -o "$folder/turns.aarch64" ||
         say "turns.c does not compile for aarch64"

@@ -5,7 +5,8 @@
 .ci/library.py --build  builds alone: the archive and the shared object, for ./install
 
     lockmon=PATH        compares with this `lockmon`, and not with the one that `rt ci` built
-    target=aarch64      builds for another processor, with the compiler and the tools for it (Debian: gcc-aarch64-linux-gnu)
+    target=aarch64      builds for another processor, with the compiler and the C library for it (Debian:
+                         gcc-aarch64-linux-gnu, libc6-dev-arm64-cross)
 
 The clients are compiled with cc, and with c++ and rustc if they are there. What is tried:
 - the examples, scripts and tables of `lockmon queue`, and random scripts, by a client in C that reads its language;
@@ -70,12 +71,16 @@ class Processor:
         return self.out / "libhirvodas-locks.so"
 
     def is_there(self):
-        """Whether its tools are there, and what runs its programs."""
-        return all(map(shutil.which, [self.compiler, self.archiver, *self.runs]))
+        """Whether its tools are there with a C library, and what runs its programs."""
+        if not all(map(shutil.which, [self.compiler, self.archiver, *self.runs])):
+            return False
+        words = [self.compiler, "-x", "c", "-fsyntax-only", "-"]
+        return subprocess.run(words, input=b"#include <stdlib.h>\n", capture_output=True, check=False).returncode == 0
 
 
 HERE = Processor("x86_64", "cc", "ar", OUT)
 AARCH64 = Processor("aarch64", "aarch64-linux-gnu-gcc", "aarch64-linux-gnu-ar", OUT / "aarch64", ("qemu-aarch64-static",))
+PACKAGES = "gcc-aarch64-linux-gnu, libc6-dev-arm64-cross, qemu-user-static"
 ARCHIVE, SHARED = HERE.archive(), HERE.shared()
 
 
@@ -366,7 +371,7 @@ def try_all(lockmon):
         if AARCH64.is_there():
             yield try_elsewhere(room, lockmon)
         else:
-            yield f"for {AARCH64.name}: not tried, since its compiler or {AARCH64.runs[0]} is not there (Debian: gcc-aarch64-linux-gnu, qemu-user-static)"
+            yield f"for {AARCH64.name}: not tried, since its compiler, its C library or {AARCH64.runs[0]} is not there (Debian: {PACKAGES})"
 
 
 def main(words):
