@@ -122,7 +122,7 @@ pub enum Command<'a> {
     Locks,
     /// `.WAITS`: lists who waits for whom.
     Waits,
-    /// `.REGS`: shows the accumulators and the PC.
+    /// `.REGS`: shows the PC, the flags and the accumulators.
     Registers,
     /// `.TICK n`: lets n ticks go by.
     Tick(u32),

@@ -26,7 +26,7 @@ static COMMANDS: [&str; 43] = [
     ".JOBS            how all jobs stand",
     ".LOCKS           the requests for locks, in order of arrival",
     ".WAITS           who waits for whom, and circles",
-    ".REGS            the accumulators and the PC of the open job",
+    ".REGS            the PC, the flags and the accumulators of the open job",
     ".HISTORY n       the last n turns of the open job; n is decimal, 1 to 1000",
     ".WATCH a         runs stop where the word at a changes, or no longer",
     ".BREAK LOCK A    runs stop before calls on the lock A (#17 by its code), or no longer",

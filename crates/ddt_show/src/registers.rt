@@ -2,7 +2,7 @@
 
 use crate::addresses::ShownJob;
 use concrete_machine::Machine;
-use run_notes::Reference;
+use run_notes::{FlagNames, Reference};
 use std::alloc::{AllocError, Global};
 use std::fmt;
 use word36::Word;
@@ -37,7 +37,7 @@ impl fmt::Display for Accumulators<'_> {
     }
 }
 
-/// The PC of a job and its accumulators, four in a line; or that the job is gone.
+/// The PC of a job, its flags and its accumulators, four in a line; or that the job is gone.
 pub fn register_lines(
     alloc: Global,
     machine: &Machine,
@@ -51,6 +51,7 @@ pub fn register_lines(
         places: &job.places,
         address: view.pc.number(),
     };
+    let flags = FlagNames { flags: view.flags };
     let accumulators = Accumulators { machine, number };
-    format!(in alloc; "job {number}, PC {spot}\n{accumulators}")
+    format!(in alloc; "job {number}, PC {spot}, flags {flags}\n{accumulators}")
 }

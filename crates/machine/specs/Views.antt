@@ -21,6 +21,7 @@ view_of w n (Some j) = Some (record {
   line = j.line;
   blocks = blocks_of w.cores n;
   pc = j.regs.pc;
+  flags = j.regs.flags;
   stop = j.stop;
   wait = held_wait w.lines w.requests n j;
 })

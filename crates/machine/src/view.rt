@@ -1,6 +1,7 @@
 //! What there is to see of a job.
 
 use job_sched::{Stop, Wait};
+use ka_cpu::Flags;
 use tty_lines::LineNumber;
 use word36::Address;
 
@@ -13,6 +14,8 @@ pub struct JobView {
     pub blocks: u32,
     /// Its PC.
     pub pc: Address,
+    /// Its flags, which its instructions change.
+    pub flags: Flags,
     /// Why it is stopped, if it is.
     pub stop: Option<Stop>,
     /// What it waits for; none where its wait holds no longer.

@@ -222,7 +222,7 @@ fn push(out: &mut Vec<u8>, text: &str) -> Result<(), AllocError> {
 
 /// Adds a character; one that does not print as a backslash and three octal digits, so that no source speaks to a terminal.
 fn push_character(out: &mut Vec<u8>, character: u8) -> Result<(), AllocError> {
-    if character > 31 && character < 127 {
+    if character == b' ' || character.is_ascii_graphic() {
         out.push(character)?;
         Ok(())
     } else {

@@ -268,7 +268,7 @@ fn printx(state: &mut Assembly) {
         match state.peek() {
             None | Some(b'\n') => break,
             Some(character) => {
-                if character > 31 && character < 127 || character == b'\t' {
+                if matches!(character, b'\t' | b' ') || character.is_ascii_graphic() {
                     type_character(state, character);
                 } else {
                     let done = push_escaped(&mut state.typed, character).is_ok();

@@ -55,7 +55,9 @@ fn is_assignment(state: &mut Assembly, operation: &Option<BuiltIn>) -> bool {
 /// Goes on behind the `=`, `==`, and mark of an assignment; gives where its value begins.
 pub fn read_equals(state: &mut Assembly, name: Name, place: Place) -> Place {
     state.advance(b'=');
+    let is_one = state.peek() != Some(b'=');
     state.skip(b'=');
+    state.shown = is_one.then_some(name);
     match state.peek() {
         Some(b':') => state.advance(b':'),
         Some(b'!') => state.advance(b'!'),

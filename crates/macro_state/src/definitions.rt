@@ -53,6 +53,7 @@ impl Assembly {
                     placed: true,
                     multiple: false,
                     phased: self.phase.is_some(),
+                    shown: false,
                     pass: self.pass,
                 };
                 self.put_definition(name, definition);
@@ -83,6 +84,7 @@ impl Assembly {
 
     /// Assigns a value to a symbol.
     pub fn assign(&mut self, name: Name, place: Place, value: Option<i64>, placed: bool) {
+        let shown = self.shown == Some(name);
         match self.symbols.get(name) {
             Some(before) if before.kind != DefinitionKind::Assigned => self.define_again(
                 name,
@@ -94,6 +96,7 @@ impl Assembly {
                 let definition = Definition {
                     value,
                     placed,
+                    shown,
                     ..before
                 };
                 self.put_definition(name, definition);
@@ -105,6 +108,7 @@ impl Assembly {
                     placed,
                     multiple: false,
                     phased: false,
+                    shown,
                     pass: self.pass,
                 };
                 self.put_definition(name, definition);
@@ -138,6 +142,7 @@ impl Assembly {
                 placed: true,
                 multiple: false,
                 phased: false,
+                shown: false,
                 pass: self.pass,
             },
             Some(before) if before.kind == DefinitionKind::Variable && before.pass != self.pass =>

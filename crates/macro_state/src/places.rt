@@ -1,6 +1,6 @@
 //! Places of words, literals and variables.
 
-use crate::state::{Assembly, PLACES, PoolLabel};
+use crate::state::{Assembly, PLACES, PlacedPool, PoolLabel};
 use crate::values::Value;
 use macro_faults::Fault;
 use macro_names::Name;
@@ -95,6 +95,16 @@ impl Assembly {
         self.pool_labels.clear();
     }
 
+    /// Notes where the literals of the second pass stand. Under PHASE their words stand elsewhere.
+    fn note_pool(&mut self, first: i64) {
+        let words = self.pool.len().min(PLACES) as u32;
+        if self.pass == 2 && words != 0 && self.phase.is_none() {
+            let first = first.max(0).min(PLACES as i64) as u32;
+            let done = self.placed_pools.push(PlacedPool { first, words }).is_ok();
+            self.kept(done);
+        }
+    }
+
     /// Places the literals so far.
     pub fn place_pool(&mut self) {
         if self.is_failed() {
@@ -109,6 +119,7 @@ impl Assembly {
             self.report_moved(self.statement, Fault::OtherPool);
         }
         self.pools = self.pools.saturating_add(1);
+        self.note_pool(base);
         self.settle_labels(base);
         for at in 0..self.pool.len() {
             if let Some(word) = self.pool.as_slice().get(at).copied() {

@@ -20,6 +20,15 @@ pub struct PoolLabel {
     pub place: Place,
 }
 
+/// Where the words of a pool of literals stand.
+#[derive(Clone, Copy)]
+pub struct PlacedPool {
+    /// The address of the first.
+    pub first: u32,
+    /// How many there are.
+    pub words: u32,
+}
+
 /// `-` or `^-` before a value.
 #[derive(Clone, Copy)]
 pub struct Sign {
@@ -70,6 +79,8 @@ pub struct Assembly {
     pub kept_relocatable: i64,
     /// How far labels are from their words under PHASE.
     pub phase: Option<i64>,
+    /// The name that is being assigned by one `=`.
+    pub shown: Option<Name>,
     /// The address that `.` has: that of the statement.
     pub statement_address: i64,
     /// Where the statement begins.
@@ -108,6 +119,8 @@ pub struct Assembly {
     pub pool_labels: Vec<PoolLabel>,
     /// The places of the pools.
     pub pool_bases: Vec<i64>,
+    /// Where the pools of the second pass stand that have words, but for those under PHASE.
+    pub placed_pools: Vec<PlacedPool>,
     /// How many pools are placed in this pass.
     pub pools: usize,
     /// The variables that are not placed.
@@ -156,6 +169,7 @@ impl Assembly {
             kept_absolute: 0,
             kept_relocatable: FIRST,
             phase: None,
+            shown: None,
             statement_address: FIRST,
             statement: Place::new(1, 1),
             in_literals: 0,
@@ -175,6 +189,7 @@ impl Assembly {
             pool: Vec::new(alloc),
             pool_labels: Vec::new(alloc),
             pool_bases: Vec::new(alloc),
+            placed_pools: Vec::new(alloc),
             pools: 0,
             variables: Vec::new(alloc),
             created: 0,

@@ -27,6 +27,8 @@ pub struct Definition {
     pub multiple: bool,
     /// Whether its place is one of PHASE.
     pub phased: bool,
+    /// Whether the debugger writes its value by it: it was assigned last by one `=`. `==` keeps it from that.
+    pub shown: bool,
     /// The pass that defined it last.
     pub pass: u8,
 }

@@ -706,6 +706,7 @@ impl<L: LockTable, C: CoreStore> Parts<L, C> {
             line: job.line,
             blocks: self.world.cores.blocks(n),
             pc: job.regs.pc,
+            flags: job.regs.flags,
             stop: job.stop,
             wait: self.held_wait(n, job),
         })

@@ -9,7 +9,7 @@ use macro_output::{Written, source_of};
 use macro_state::Assembly;
 use macro_symbols::DefinitionKind;
 use macro_values::word_of;
-use source_labels::{Assembled, NamedNumber, Program, Source, places_in};
+use source_labels::{Assembled, Literals, NamedNumber, Program, Source, places_in};
 use std::alloc::{AllocError, Global};
 
 /// The line where the words of a source are not those that are read back.
@@ -31,10 +31,26 @@ fn numbers_of(state: &Assembly) -> Result<Vec<NamedNumber>, AllocError> {
             continue;
         };
         if let Some(value) = word_of(number) {
-            numbers.push(NamedNumber { name, value })?;
+            numbers.push(NamedNumber {
+                name,
+                value,
+                is_shown: definition.shown,
+            })?;
         }
     }
     Ok(numbers)
+}
+
+/// The pools of literals of a source.
+fn pools_of(state: &Assembly) -> Result<Vec<Literals>, AllocError> {
+    let mut pools = Vec::new(state.alloc);
+    for pool in &state.placed_pools {
+        pools.push(Literals {
+            first: pool.first,
+            end: pool.first.saturating_add(pool.words),
+        })?;
+    }
+    Ok(pools)
 }
 
 /// The program of an assembly without faults, for which this source was written.
@@ -48,9 +64,11 @@ fn program_of<'a>(
 {
     let typed = Vec::from_slice(state.alloc, state.typed.as_slice())?;
     let numbers = numbers_of(state)?;
+    let pools = pools_of(state)?;
     let Written { text, image } = written;
     let mut places = places_in(state.alloc, text.as_slice(), &image)?;
     places.numbers = numbers;
+    places.pools = pools;
     Ok(Program {
         file,
         image,

@@ -20,6 +20,7 @@ fn program_with<'a>(alloc: Global, file: &'a str, image: Image) -> Program<'a>
         places: Places {
             labels: Vec::new(alloc),
             literals: Literals { first: 0, end: 0 },
+            pools: Vec::new(alloc),
             numbers: Vec::new(alloc),
         },
         written: None,

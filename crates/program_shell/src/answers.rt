@@ -1,5 +1,6 @@
 //! An output for whole texts.
-ghost use Rattle.std.specs.Prelude.{◌≡◌, false};
+ghost use Rattle.std.specs.Prelude.{◌≡◌, false, true, IsErr};
+ghost use Rattle.script_io.specs.Ports.{WritesAll};
 
 use script_io::{ByteOut, Failed, write_all};
 
@@ -26,7 +27,11 @@ impl<W: ByteOut + Drop> Answers<W> {
     }
 
     /// Writes all of these bytes. Fails where the port fails now, or failed before.
-    pub fn write(&mut self, bytes: &[u8]) -> Result<(), Failed> {
+    pub fn write(&mut self, bytes: &[u8]) -> Result<(), Failed>
+        ensures closed { self.old.is_closed ≡ true → IsErr result × (self.new.inner ≡ self.old.inner) }
+        ensures written { self.old.is_closed ≡ false
+            → WritesAll (W.written self.old.inner) (W.written self.new.inner) (W.has_failed self.new.inner) result bytes.now }
+    {
         if self.is_closed {
             return Err(Failed);
         }

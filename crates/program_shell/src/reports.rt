@@ -41,6 +41,7 @@ pub fn write_output<W: ByteOut, E: ByteOut>(
     requires writer_sound { W.has_failed writer.old ≡ false }
     requires errors_sound { E.has_failed errors.old ≡ false }
     ensures status { W.has_failed writer.new ≡ false → result ≡ DONE }
+    ensures handed { Hands (W.written writer.old) (W.written writer.new) (W.has_failed writer.new) text.now }
 {
     match write_all(writer, text) {
         Ok(()) => DONE,

@@ -34,14 +34,21 @@ fn write_signed<W: fmt::Write>(half: u32, f: &mut fmt::Formatter<W>) -> fmt::Res
     }
 }
 
+/// Whether an address is written by a label.
+fn has_label(places: &Places, address: u32) -> bool {
+    match Address::try_new(address) {
+        Some(place) => nearest(places.labels.as_slice(), place).is_some(),
+        None => false,
+    }
+}
+
 impl fmt::Display for Reference<'_> {
     fn fmt<W: fmt::Write>(&self, f: &mut fmt::Formatter<W>) -> fmt::Result {
         let (places, address) = (self.places, self.address);
         let Some(place) = Address::try_new(address) else {
             return write_signed(address, f);
         };
-        let has_label = nearest(places.labels.as_slice(), place).is_some();
-        if has_label || places.literals.have(place) {
+        if has_label(places, address) || places.literals_at(place).is_some() {
             let spot = Spot { places, place };
             write!(f, "{spot}")
         } else {
@@ -131,7 +138,33 @@ fn has_no_address(fields: Fields) -> bool {
     looks_at_none && fields.y == 0 && !fields.i && fields.x == 0
 }
 
-/// An instruction as a person reads it, with labels for addresses.
+/// How many accumulators there are.
+const ACCUMULATORS: u32 = 16;
+
+/// An accumulator as a person reads it: by the name that the source assigned to its number, else in octal.
+#[derive(Clone, Copy, Debug)]
+struct Accumulator<'a> {
+    /// The program's names.
+    places: &'a Places,
+    /// Its number.
+    number: u32,
+}
+
+impl fmt::Display for Accumulator<'_> {
+    fn fmt<W: fmt::Write>(&self, f: &mut fmt::Formatter<W>) -> fmt::Result {
+        match self.places.accumulator(self.number) {
+            Some(name) => write!(f, "{name}"),
+            None => write!(f, "{:o}", self.number),
+        }
+    }
+}
+
+/// Whether the AC field of an operation is a function or a set of flags, and no accumulator.
+fn has_no_accumulator(op: u16) -> bool {
+    matches!(classify(op), Family::Jrst | Family::Jfcl)
+}
+
+/// An instruction as a person reads it, with labels for addresses, and with the names that its source has for accumulators.
 #[derive(Clone, Copy, Debug)]
 pub struct InstructionText<'a> {
     /// The program's labels and literals.
@@ -141,6 +174,29 @@ pub struct InstructionText<'a> {
 }
 
 impl InstructionText<'_> {
+    /// An accumulator of the program.
+    fn accumulator(&self, number: u32) -> Accumulator<'_> {
+        Accumulator {
+            places: self.places,
+            number,
+        }
+    }
+
+    /// Writes a monitor call, which has an accumulator and no address.
+    fn write_call<W: fmt::Write>(
+        &self,
+        name: &str,
+        ac: u8,
+        f: &mut fmt::Formatter<W>,
+    ) -> fmt::Result {
+        f.write_str(name)?;
+        if ac != 0 {
+            let accumulator = self.accumulator(u32::from(ac));
+            write!(f, " {accumulator},")?;
+        }
+        Ok(())
+    }
+
     /// Writes the address part of an instruction.
     fn write_address<W: fmt::Write>(
         &self,
@@ -150,7 +206,11 @@ impl InstructionText<'_> {
         if fields.i {
             f.write_str("@")?;
         }
-        if !is_immediate(fields.op) || fields.i {
+        let is_address = !is_immediate(fields.op) || fields.i;
+        if is_address && fields.y < ACCUMULATORS && !has_label(self.places, fields.y) {
+            let accumulator = self.accumulator(fields.y);
+            write!(f, "{accumulator}")?;
+        } else if is_address {
             let reference = Reference {
                 places: self.places,
                 address: fields.y,
@@ -162,7 +222,8 @@ impl InstructionText<'_> {
             write_signed(fields.y, f)?;
         }
         if fields.x != 0 {
-            write!(f, "({:o})", fields.x)?;
+            let index = self.accumulator(u32::from(fields.x));
+            write!(f, "({index})")?;
         }
         Ok(())
     }
@@ -176,8 +237,11 @@ impl InstructionText<'_> {
         f: &mut fmt::Formatter<W>,
     ) -> fmt::Result {
         f.write_str(name)?;
-        if ac != 0 {
+        if ac != 0 && has_no_accumulator(fields.op) {
             write!(f, " {ac:o},")?;
+        } else if ac != 0 {
+            let accumulator = self.accumulator(u32::from(ac));
+            write!(f, " {accumulator},")?;
         }
         if has_no_address(fields) {
             return Ok(());
@@ -223,15 +287,6 @@ impl fmt::Display for IllegalText<'_> {
     }
 }
 
-/// Writes a monitor call, which has an accumulator and no address.
-fn write_call<W: fmt::Write>(name: &str, ac: u8, f: &mut fmt::Formatter<W>) -> fmt::Result {
-    if ac == 0 {
-        f.write_str(name)
-    } else {
-        write!(f, "{name} {ac:o},")
-    }
-}
-
 impl fmt::Display for InstructionText<'_> {
     fn fmt<W: fmt::Write>(&self, f: &mut fmt::Formatter<W>) -> fmt::Result {
         let fields = decode(self.word);
@@ -241,7 +296,7 @@ impl fmt::Display for InstructionText<'_> {
         let is_plain = !fields.i && fields.x == 0;
         if classify(fields.op) == Family::Calli && is_plain {
             if let Some(call) = call_name(fields.y) {
-                return write_call(call, fields.ac, f);
+                return self.write_call(call, fields.ac, f);
             }
         }
         match name_with_ac(fields) {

@@ -4,6 +4,7 @@
 
 mod circle_lines;
 mod fact_lines;
+mod flag_names;
 mod grants;
 mod instructions;
 mod job_stops;
@@ -19,6 +20,7 @@ mod wait_lines;
 
 pub use circle_lines::{circle_line, circle_of, has_circle};
 pub use fact_lines::facts_text;
+pub use flag_names::FlagNames;
 pub use grants::grant_lines;
 pub use instructions::{IllegalText, InstructionText, Reference};
 pub use job_stops::{login_refusal_text, stop_text};

@@ -1,10 +1,11 @@
 //! A job as it stands before its turn.
 
-ghost use Rattle.std.specs.Prelude.{◌≡◌, IfSome};
+ghost use Rattle.std.specs.Prelude.{◌≡◌, IfSome, Some};
 ghost use Rattle.machine.specs.Next.{effective_in, executed_in};
-ghost use Rattle.machine.specs.Views.{word_in};
+ghost use Rattle.machine.specs.Views.{job_view, word_in};
 
 use concrete_machine::Machine;
+use ka_cpu::Flags;
 use word36::{Address, Word};
 
 /// How many registers there are.
@@ -25,6 +26,8 @@ pub struct Snapshot {
     pub operand: Option<Word>,
     /// The registers.
     pub registers: [Word; REGISTERS],
+    /// The flags, if the job is there.
+    pub flags: Option<Flags>,
     /// Its requests for locks.
     requests: Requests,
 }
@@ -96,12 +99,23 @@ fn registers_of(machine: &Machine, number: u8) -> [Word; REGISTERS] {
     registers
 }
 
+/// The flags of a job, if it is there.
+pub fn flags_of(machine: &Machine, number: u8) -> Option<Flags>
+    ensures there { IfSome (job_view machine.now.world number) (λ v. result ≡ Some v.flags) }
+{
+    match machine.job(number) {
+        Some(view) => Some(view.flags),
+        None => None,
+    }
+}
+
 /// What a job executes at an address, and what it finds there.
 pub fn snapshot_of(machine: &Machine, number: u8, place: Address) -> Snapshot
     ensures place { result.place ≡ place }
     ensures instruction { IfSome (word_in machine.now.world number place) (λ w. result.instruction ≡ w) }
     ensures executed { IfSome (executed_in machine.now.world number result.instruction) (λ w. result.executed ≡ w) }
     ensures address { result.address ≡ effective_in machine.now.world number result.executed }
+    ensures flags { IfSome (job_view machine.now.world number) (λ v. result.flags ≡ Some v.flags) }
     ensures operand { IfSome result.address (λ a. result.operand ≡ word_in machine.now.world number a) }
 {
     let instruction = machine.peek(number, place.number()).unwrap_or(Word::new(0));
@@ -116,6 +130,7 @@ pub fn snapshot_of(machine: &Machine, number: u8, place: Address) -> Snapshot
         address,
         operand: word_at(machine, number, address),
         registers: registers_of(machine, number),
+        flags: flags_of(machine, number),
         requests: requests_of(machine, number),
     }
 }

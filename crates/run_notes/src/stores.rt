@@ -1,7 +1,8 @@
 //! What a step changed.
 
+use crate::flag_names::FlagNames;
 use crate::instructions::Reference;
-use crate::snapshot::{Snapshot, address_of};
+use crate::snapshot::{Snapshot, address_of, flags_of};
 use crate::traced_job::TracedJob;
 use concrete_machine::Machine;
 use ka_isa::{Family, classify, decode};
@@ -133,8 +134,24 @@ fn push_beside(
     }
 }
 
-/// Adds what a step changed: registers, the word at the effective address, and what PUSH, PUSHJ, IDPB, DPB and BLT
-/// store.
+/// Adds the flags that are set after a step, if the step changed the flags: `  flags Overflow`.
+fn push_flags(
+    text: &mut String,
+    machine: &Machine,
+    job: &TracedJob,
+    before: &Snapshot,
+) -> Result<(), AllocError> {
+    match flags_of(machine, job.number) {
+        Some(flags) if before.flags != Some(flags) => {
+            let names = FlagNames { flags };
+            write!(text, "  flags {names}")
+        }
+        _ => Ok(()),
+    }
+}
+
+/// Adds what a step changed: registers, the word at the effective address, what PUSH, PUSHJ, IDPB, DPB and BLT store,
+/// and flags.
 pub fn push_changes(
     text: &mut String,
     machine: &Machine,
@@ -142,10 +159,11 @@ pub fn push_changes(
     before: &Snapshot,
 ) -> Result<(), AllocError> {
     let added = push_registers(text, machine, job, before);
-    match block_of(before) {
+    let stored = match block_of(before) {
         Some((first, last)) => added.and(push_block(text, machine, job, first, last)),
         None => added
             .and(push_operand(text, machine, job, before))
             .and(push_beside(text, machine, job, before)),
-    }
+    };
+    stored.and(push_flags(text, machine, job, before))
 }

@@ -16,15 +16,20 @@ pub struct Label {
     pub end: u32,
 }
 
+/// Writes a name of six characters in SIXBIT without its blanks.
+pub fn write_name<W: fmt::Write>(name: u64, f: &mut fmt::Formatter<W>) -> fmt::Result {
+    for shift in [30u32, 24, 18, 12, 6, 0] {
+        let code = (name >> shift & 0o77) as u8;
+        if code != 0 {
+            f.write_char(char::from(code + 0o40))?;
+        }
+    }
+    Ok(())
+}
+
 impl fmt::Display for Label {
     fn fmt<W: fmt::Write>(&self, f: &mut fmt::Formatter<W>) -> fmt::Result {
-        for shift in [30u32, 24, 18, 12, 6, 0] {
-            let code = (self.name >> shift & 0o77) as u8;
-            if code != 0 {
-                f.write_char(char::from(code + 0o40))?;
-            }
-        }
-        Ok(())
+        write_name(self.name, f)
     }
 }
 

@@ -1,12 +1,13 @@
 //! The labels and the literals of a source, with their addresses.
 
-use crate::labels::Label;
+use crate::labels::{Label, write_name};
 use mac_layout::{Layout, MEMORY_SIZE, clamped};
 use mac_text::{Line, Statement};
 use std::alloc::{AllocError, Global};
+use std::fmt;
 use word36::{Address, Image, Word};
 
-/// The addresses of literals: `first` .. `end`.
+/// The addresses of literals that stand together: `first` .. `end`.
 #[derive(Clone, Copy, Debug, PartialEq, Eq)]
 pub struct Literals {
     /// The address of END, where the literals begin.
@@ -22,6 +23,14 @@ pub struct NamedNumber {
     pub name: u64,
     /// The number.
     pub value: Word,
+    /// Whether an accumulator of this number is written by it: the source assigned it by one `=`.
+    pub is_shown: bool,
+}
+
+impl fmt::Display for NamedNumber {
+    fn fmt<W: fmt::Write>(&self, f: &mut fmt::Formatter<W>) -> fmt::Result {
+        write_name(self.name, f)
+    }
 }
 
 /// The labels and the literals of a source, and its names for numbers.
@@ -29,10 +38,31 @@ pub struct NamedNumber {
 pub struct Places {
     /// The labels, in the order of their definitions.
     pub labels: Vec<Label>,
-    /// The literals.
+    /// The literals of a source of the subset, which stand together.
     pub literals: Literals,
-    /// The names that stand for numbers. No address is written by them.
+    /// The pools of literals of a source in MACRO-10.
+    pub pools: Vec<Literals>,
+    /// The names that stand for numbers. Accumulators are written by them, and no other address.
     pub numbers: Vec<NamedNumber>,
+}
+
+impl Places {
+    /// The literals among which an address is.
+    pub fn literals_at(&self, place: Address) -> Option<Literals> {
+        if self.literals.have(place) {
+            return Some(self.literals);
+        }
+        let pool = self.pools.iter().find(|pool| pool.have(place))?;
+        Some(*pool)
+    }
+
+    /// The name by which an accumulator is written: of those that the source assigned its number to by one `=`, the first.
+    pub fn accumulator(&self, number: u32) -> Option<&NamedNumber> {
+        let wanted = Word::low_bits(u64::from(number));
+        self.numbers
+            .iter()
+            .find(|it| it.is_shown && it.value == wanted)
+    }
 }
 
 impl Literals {
@@ -116,6 +146,7 @@ pub fn places_of(
                 end
             },
         },
+        pools: Vec::new(alloc),
         numbers: Vec::new(alloc),
     })
 }

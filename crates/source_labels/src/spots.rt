@@ -5,8 +5,8 @@ use crate::places::Places;
 use std::fmt;
 use word36::Address;
 
-/// An address as a person reads it: by the nearest label of its block, as `LOOP+3` with the offset in octal; among
-/// the literals `[..]`, and `[..+3]` three words behind the first; elsewhere six octal digits.
+/// An address as a person reads it: by the nearest label of its block, as `LOOP+3` with the offset in octal; among literals
+/// `[..]`, and `[..+3]` three words after the first of them, unless a label in them is nearer; elsewhere six octal digits.
 #[derive(Clone, Copy, Debug)]
 pub struct Spot<'a> {
     /// The program's labels and literals.
@@ -31,15 +31,22 @@ fn write_offset<W: fmt::Write>(
 impl fmt::Display for Spot<'_> {
     fn fmt<W: fmt::Write>(&self, f: &mut fmt::Formatter<W>) -> fmt::Result {
         let (places, place) = (self.places, self.place);
+        let literals = places.literals_at(place);
         if let Some(label) = nearest(places.labels.as_slice(), place) {
-            write!(f, "{label}")?;
-            return write_offset(place, label.place.number(), f);
+            let is_nearer = match literals {
+                Some(literals) => literals.first <= label.place.number(),
+                None => true,
+            };
+            if is_nearer {
+                write!(f, "{label}")?;
+                return write_offset(place, label.place.number(), f);
+            }
         }
-        if places.literals.have(place) {
-            f.write_str("[..")?;
-            write_offset(place, places.literals.first, f)?;
-            return f.write_str("]");
-        }
-        write!(f, "{place}")
+        let Some(literals) = literals else {
+            return write!(f, "{place}");
+        };
+        f.write_str("[..")?;
+        write_offset(place, literals.first, f)?;
+        f.write_str("]")
     }
 }
