@@ -116,7 +116,7 @@ quiet-round s n made k j safe next u there whole less =
       told =
           told-at s t n (suc k) j (last-step (tells n) s n k j true safe next fewer there count)
           ∙ ap (λ (y : Stretch). Some (seen_at (tells n) (chosen_world s n) s.time s.quantum n true y)) flat;
-      view = record { line = j.line; blocks = blocks_of w.cores n; pc = r.after.regs.pc; stop = j.stop; wait = held_wait w.lines w.requests n job };
+      view = record { line = j.line; blocks = blocks_of w.cores n; pc = r.after.regs.pc; flags = r.after.regs.flags; stop = j.stop; wait = held_wait w.lines w.requests n job };
       there = ap (λ (v : World). job_view v n) left ∙ ap (λ (o : Option Job). view_of w n o) here;
       goes = none-is j.stop h.stop;
       limits =
