@@ -1,39 +1,14 @@
-//! Sources that are assembled, core images that are loaded, and the jobs that are logged in for them.
+//! The programs of sources and core images, and the jobs that are logged in for them.
 
 use crate::session::{Session, SessionJob};
 use ddt_show::ShownJob;
 use ddt_timeline::{Entry, Timeline};
 use image_files::Packing;
 use monitor::{Answer, RefusedEvent};
-use program_files::read_program;
+use program_files::read_programs;
 use program_shell::PendingText;
 use shown_bytes::push_shown;
-use source_labels::{Assembled, MOST_REPORTED, Program, Source, warnings_of};
-
-/// Gives the programs of all files, sources and core images whose words are packed so, and reports what sources have typed
-/// out by PRINTX, what is wrong with them, and warnings; `None` where something is wrong.
-fn assemble_all<'a>(
-    report: &mut PendingText,
-    sources: &[Source<'a>],
-    from: Packing,
-) -> Option<Vec<Program<'a>>> {
-    let mut programs = Vec::new(report.alloc);
-    for source in sources {
-        match read_program(report.alloc, source, from, MOST_REPORTED) {
-            Ok(Assembled::Program(program)) => {
-                let file = program.file;
-                report.add(program.typed.as_slice());
-                report.say_made(warnings_of(report.alloc, file, &program.image, &program.places));
-                if programs.push(program).is_err() {
-                    report.fail();
-                }
-            }
-            Ok(Assembled::Refused(text)) => report.add(text.as_slice()),
-            Err(_) => report.fail(),
-        }
-    }
-    (programs.len() == sources.len()).then_some(programs)
-}
+use source_labels::{MOST_REPORTED, Program, Source};
 
 /// Adds a job that was logged in.
 fn add_job(session: &mut Session, file: &str, shown: ShownJob, written: Option<Vec<u8>>) {
@@ -94,7 +69,7 @@ pub fn begin(
     sources: &[Source<'_>],
     from: Packing,
 ) -> bool {
-    let Some(programs) = assemble_all(&mut session.answer, sources, from) else {
+    let Some(programs) = read_programs(sources, from, MOST_REPORTED, &mut session.answer) else {
         return false;
     };
     for program in programs {

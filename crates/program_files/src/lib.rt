@@ -6,7 +6,9 @@ mod macro_sources;
 mod names;
 mod programs;
 mod reports;
+mod several;
 
 pub use from_option::{make_from, packing_in};
 pub use names::is_image_name;
 pub use programs::read_program;
+pub use several::read_programs;

@@ -1,49 +1,15 @@
-//! Assembles sources and loads core images, and logs a job in for each.
+//! Logs a job in for each program.
 
 use crate::jobs::RunningJob;
 use crate::recording::Recording;
 use crate::terminal::Terminal;
 use concrete_machine::Machine;
-use image_files::Packing;
 use monitor::{Answer, Event, RefusedEvent};
-use program_files::read_program;
 use program_shell::PendingText;
 use run_notes::{TracedJob, login_refusal_text};
 use run_record::RunEvent;
-use source_labels::{Assembled, Program, Source, warnings_of};
+use source_labels::Program;
 use word36::{Address, Image};
-
-/// Gives the programs of files: sources, which it assembles, and core images, whose words are packed so. Reports what sources
-/// have typed out by PRINTX, and what is wrong with each file that is refused, `most` faults of each source. Where one is
-/// refused it gives no programs.
-pub fn assemble_all<'a>(
-    sources: &[Source<'a>],
-    from: Packing,
-    most: usize,
-    errors: &mut PendingText,
-) -> Option<Vec<Program<'a>>> {
-    let alloc = errors.alloc;
-    let mut programs = Vec::new(alloc);
-    let mut are_right = true;
-    for source in sources {
-        match read_program(alloc, source, from, most) {
-            Ok(Assembled::Program(program)) => {
-                errors.add(program.typed.as_slice());
-                let (file, image, places) = (program.file, &program.image, &program.places);
-                errors.say_made(warnings_of(alloc, file, image, places));
-                if programs.push(program).is_err() {
-                    errors.fail();
-                }
-            }
-            Ok(Assembled::Refused(text)) => {
-                errors.add(text.as_slice());
-                are_right = false;
-            }
-            Err(_) => errors.fail(),
-        }
-    }
-    if are_right { Some(programs) } else { None }
-}
 
 /// Logs a job in at a terminal line, and starts it: the first program at line 0, and so on. Gives its number, or why it is
 /// refused.

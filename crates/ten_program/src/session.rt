@@ -4,7 +4,7 @@ ghost use Rattle.std.specs.Prelude.{◌≤◌};
 ghost use Rattle.run_record.specs.declared.pieces.TheConstants.{MOST_ROUNDS};
 
 use crate::jobs::RunningJob;
-use crate::loading::{assemble_all, log_in_all};
+use crate::loading::log_in_all;
 use crate::notes::Notes;
 use crate::options::Options;
 use crate::picture::Picture;
@@ -15,6 +15,7 @@ use crate::waits::Waits;
 use concrete_machine::Machine;
 use machine::MOST_TAKES;
 use monitor::{Answer, Event};
+use program_files::read_programs;
 use program_shell::PendingText;
 use run_events::{Fact, RoundsMade};
 use run_facts::{Cut, Ending, UNASKED_CUT, has_ended_well, status_of};
@@ -121,7 +122,7 @@ impl Session {
         sources: &[Source<'_>],
         options: &Options<'_>,
     ) -> bool {
-        let Some(programs) = assemble_all(sources, options.from, options.faults, &mut self.errors)
+        let Some(programs) = read_programs(sources, options.from, options.faults, &mut self.errors)
         else {
             return false;
         };
