@@ -1,7 +1,7 @@
 #!/usr/bin/env python3
 """Compares two tables of the pages with the program's own: in docs/MACHINE.md, "What is left out", the names that are not here and
 what is said of them (crates/left_out); in docs/MACRO.md, "Index", each name that an assembler knows or refuses (ka_isa,
-macro_operations, left_out), and that each operator is among the signs. `--write` writes the tables of names anew."""
+macro_operations, left_out) or that SEARCH defines (search_files), and that each operator is among the signs. `--write` writes the tables of names anew."""
 import re
 import sys
 from pathlib import Path
@@ -24,6 +24,14 @@ SECTIONS = {
     "listing": ("List", "Xlist", "Lall", "Sall", "Xall"),
 }
 IGNORED = ("Title", "Remark", "Quiet")
+# Statements whose kind `macro` refuses, and which it takes nevertheless (macro_reading/src/searches.rt).
+TAKEN = {
+    "EXTERN": "[statement](#statements-of-macro) of `macro`",
+    ".REQUEST": "ignored by `macro`",
+    ".TEXT": "ignored by `macro`",
+    "TWOSEG": "[statement](#two-segments) of `macro`",
+    "HISEG": "[statement](#two-segments) of `macro`",
+}
 # In these sections each statement has the same words as this one.
 LIKE = {"texts-in-brackets": "DEFINE", "listing": "LIST"}
 REFUSED = {"Extern": "Linking", "Segments": "Segments", "Universal": "Universal"}
@@ -59,8 +67,10 @@ def rows():
 
 
 def names_table():
-    """Gives the table of MACHINE.md."""
-    return [(" ".join(f"`{it}`" for it in names), words) for names, words in rows()]
+    """Gives the table of MACHINE.md. A row whose names SEARCH defines says that too."""
+    defined = dict(universal())
+    here = "; after SEARCH [`macro` has it](MACRO.md#what-search-defines)"
+    return [(" ".join(f"`{it}`" for it in names), words + here * (set(names) <= set(defined))) for names, words in rows()]
 
 
 # ---- the index
@@ -71,7 +81,7 @@ def instead():
     page = (TOP / "docs/MACRO.md").read_text()
     found = {}
     for names, words in re.findall(r"^\| (.*?) \| (.*?) \|$", page[page.index(INSTEAD) :].split("\n## ")[0], re.MULTILINE):
-        found |= {it: words for it in re.findall(r"`([A-Z][A-Z0-9]+)(?: [^`]*)?`", names)}
+        found |= {it: words for it in re.findall(r"`([A-Z.][A-Z0-9]+)(?: [^`]*)?`", names)}
     return found
 
 
@@ -95,6 +105,8 @@ def statement_row(name, kind, others):
     """Gives what the index says of a statement: of one that `lockmon asm` lacks with what to write there."""
     section = section_of(kind)
     note = others and (others.get(name) or others.get(LIKE.get(section, "PAGE" if kind in IGNORED else ""), ""))
+    if name in TAKEN:
+        return TAKEN[name], f"in `lockmon asm`: {note}" if note else ""
     if kind in REFUSED:
         return "refused", refusals()[REFUSED[kind]]
     of = "`macro`" if others else "both"
@@ -110,6 +122,27 @@ def operation_of(word):
     return f"`{name} {ac:o},`" if name and ac else f"`{name}`" if name else "a word"
 
 
+def searched(kind, after, instead):
+    """Gives what the index says of a name that SEARCH defines: what it is after SEARCH, and what is written in the subset."""
+    return f"[{kind}](#what-search-defines) of `macro`", f"after {after}, refused without it; in `lockmon asm`: {instead}"
+
+
+def universal():
+    """Gives each name that SEARCH defines, but for those that only its own macros use, and what the index says of it."""
+    text = source("macro_operations/src/tables.rt")
+    for name in re.findall(r'b"([^"]+)"', text[text.index("fn of_uuosym") :]):
+        yield name, searched("number", "`SEARCH UUOSYM`", "the number")
+    for name in re.findall(r'\("([^"]+)", 0o\d+\)', table("search_files/src/numbers.rt", "NUMBERS")):
+        yield name, searched("number", "`SEARCH UUOSYM`", "the number")
+    for name in re.findall(r'\("([^"]+)", 0o\d+\)', table("search_files/src/numbers.rt", "JOB_WORDS")):
+        yield name, searched("number", "`SEARCH JOBDAT` or `EXTERN`", "the number")
+    for name, lines in re.findall(r'\(\s*' + STRING + r',\s*' + STRING, table("search_files/src/macros.rt", "MACROS")):
+        if ".." not in name and name not in TAKEN:
+            operation = re.fullmatch(r"OPDEF \S+ \[(\w+)\]", lines)
+            kind, instead = ("operation", f"`{operation[1]}`") if operation else ("macro", "what it makes")
+            yield name, searched(kind, "`SEARCH UUOSYM`", instead)
+
+
 def index():
     """Gives each name with what it is here, and what to write instead."""
     yield from ((it, ("[operation](MACHINE.md#operations)", "")) for it in re.findall(STRING, table("ka_isa/src/names.rt", "NAMES")))
@@ -121,10 +154,9 @@ def index():
     yield from ((name, statement_row(name, kind, others)) for name, kind in statements("DIALECT"))
     for name, word in re.findall(r'\("([^"]+)", 0o(\d+)\)', table("macro_operations/src/tables.rt", "OPERATIONS")):
         yield name, ("[operation](#statements-of-macro) of `macro`", f"in `lockmon asm`: {operation_of(int(word, 8))}")
-    text = source("macro_operations/src/tables.rt")
-    for name in re.findall(r'b"([^"]+)"', text[text.index("fn of_uuosym") :]):
-        yield name, ("[number](#statements-of-macro) of `macro`", "after `SEARCH UUOSYM`; in `lockmon asm`: the number")
-    yield from ((it, ("refused", words)) for names, words in rows() for it in names)
+    defined = dict(universal())
+    yield from defined.items()
+    yield from ((it, ("refused", words)) for names, words in rows() for it in names if it not in defined)
 
 
 def index_table():
