@@ -13,13 +13,8 @@ import sys
 sys.dont_write_bytecode = True
 import crates
 
-# The places that still read what a program of ours printed: `lockview` takes the answers of a script of `lockmon run` apart.
-EXCEPTIONS = {
-    ("lockview/src/refusals.rt", "?REFUSED "),
-    ("lockview/src/refusals.rt", r"?ADDRESS\n"),
-    ("lockview/src/run_lines.rt", "?ASM "),
-    ("lockview/src/run_reasons.rt", r"RAN 1 IDLE 0\n"),
-}
+# The places that still read what a program of ours printed: none.
+EXCEPTIONS = set()
 
 TEXT = r'b?"((?:[^"\\]|\\.)*)"'
 COMPARED = re.compile(rf'(?:[=!]= *|(?:starts_with|ends_with|strip_prefix|strip_suffix|contains|eq_ignore_ascii_case)\( *){TEXT}|{TEXT} *(?:[=!]=|=>|\|)')

@@ -1,7 +1,8 @@
 #!/usr/bin/env python3
 """Compares two tables of the pages with the program's own: in docs/MACHINE.md, "What is left out", the names that are not here and
 what is said of them (crates/left_out); in docs/MACRO.md, "Index", each name that an assembler knows or refuses (ka_isa,
-macro_operations, left_out) or that SEARCH defines (search_files), and that each operator is among the signs. `--write` writes the tables of names anew."""
+macro_operations, left_out) or that SEARCH defines (search_files), and that each operator is among the signs. Each name that `image list`
+has for a number (image_service) is one that is left out. `--write` writes the tables of names anew."""
 import re
 import sys
 from pathlib import Path
@@ -71,6 +72,12 @@ def names_table():
     defined = dict(universal())
     here = "; after SEARCH [`macro` has it](MACRO.md#what-search-defines)"
     return [(" ".join(f"`{it}`" for it in names), words + here * (set(names) <= set(defined))) for names, words in rows()]
+
+
+def numbered():
+    """Gives the names that `image list` has for operations and calls that are not here."""
+    for name in ("OPERATIONS", "CALLS", "TERMINAL_CALLS"):
+        yield from re.findall(STRING, table("image_service/src/names.rt", name))
 
 
 # ---- the index
@@ -204,6 +211,11 @@ def main():
     wrong = [name for name, head, lines in tables if not compared(name, head, lines, writes)]
     if wrong:
         print(f"left_out: docs/{' and docs/'.join(wrong)} has another table than the program; .ci/left_out.py --write", file=sys.stderr)
+        return 1
+    left_out = {name for names, _ in rows() for name in names}
+    here = [it for it in numbered() if it not in left_out]
+    if here:
+        print(f"left_out: image list has a name for what is here: {' '.join(here)}", file=sys.stderr)
         return 1
     page = (TOP / "docs/MACRO.md").read_text()
     signs = page[slice(*part_of(page, SIGNS_HEAD))]

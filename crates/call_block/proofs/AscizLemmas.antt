@@ -3,7 +3,7 @@ use Rattle.std.proofs.Common.{◌≡◌, ◌≢◌, ℕ, suc, zero, ◌+◌, ◌
 use Rattle.std.proofs.Common.{get_or, true, false, cond, arith, refl, sym, ap, ◌∙◌, Option, Some}
 use Rattle.std.specs.Prelude.{nat_le, if◌then◌else◌, ◌==◌, Result, Ok, Err, All, not}
 use Rattle.std.specs.Option.{option_map}
-use Rattle.ka_cpu.specs.Memory.{word_at}
+use Rattle.ka_state.specs.Memory.{word_at}
 use Rattle.std.proofs.lemmas.Bool.Decides.{nat_tests}
 use Rattle.word36.specs.Words.{joined, right_half}
 use Rattle.call_block.proofs.PointerLemmas.{byte_of_seven, incremented_seven}

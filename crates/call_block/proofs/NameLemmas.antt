@@ -11,7 +11,7 @@ use Rattle.std.proofs.lemmas.Bool.Decides.{nat_tests}
 use Rattle.lock_queue.specs.declared.refusal.Refusal.TheVariants.{BadPointer, BadName}
 use Rattle.word36.specs.Words.{right_half}
 use Rattle.ka_word.specs.Bytes.{byte_of, incremented}
-use Rattle.ka_cpu.specs.Memory.{word_at}
+use Rattle.ka_state.specs.Memory.{word_at}
 use Rattle.call_block.specs.Names.{pointers_from, character_at, characters, is_zero, text_of, name_text}
 
 -- one more character

@@ -3,7 +3,7 @@ use Rattle.std.specs.Prelude.{◌≡◌, ℕ, ◌+◌, ◌*◌, ◌%◌, ◌^◌
 use Rattle.std.specs.Prelude.{MatchResult}
 use Rattle.word36.specs.declared.sizes.TheConstants.{NAME_LENGTH}
 use Rattle.word36.specs.Words.{joined}
-use Rattle.ka_cpu.specs.Memory.{word_at}
+use Rattle.ka_state.specs.Memory.{word_at}
 use Rattle.lock_queue.specs.declared.name.Name.TheVariants.{Text}
 use Rattle.lock_queue.specs.declared.want.Want.{Want}
 use Rattle.lock_queue.specs.declared.refusal.Refusal.{Refusal}

@@ -7,7 +7,7 @@ use Rattle.std.specs.List.{before_first, list_any}
 use Rattle.word36.specs.declared.sizes.TheConstants.{NAME_LENGTH}
 use Rattle.word36.specs.Words.{right_half}
 use Rattle.ka_word.specs.Bytes.{byte_of, incremented, position_of, size_of}
-use Rattle.ka_cpu.specs.Memory.{word_at}
+use Rattle.ka_state.specs.Memory.{word_at}
 use Rattle.lock_queue.specs.declared.name.Name.{Name}
 use Rattle.lock_queue.specs.declared.name.Name.TheVariants.{Text, Code}
 use Rattle.lock_queue.specs.declared.refusal.Refusal.{Refusal}

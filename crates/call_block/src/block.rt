@@ -2,12 +2,12 @@
 ghost use Rattle.std.specs.Prelude.{◌≡◌, ◌+◌, ◌-◌, ◌*◌, ◌^◌, ◌<◌, ◌≤◌, [], ◌∷◌, ◌++◌, IsTrue, IfOk, OnOk, take};
 ghost use Rattle.std.specs.List.{list_all};
 ghost use Rattle.arrayvec.specs.ArrayVec.{array_vec_len};
-ghost use Rattle.ka_cpu.specs.Memory.{is_legal};
+ghost use Rattle.ka_state.specs.Memory.{is_legal};
 ghost use Rattle.lock_queue.specs.WellFormed.{shares_rightly};
 ghost use Rattle.call_block.specs.Blocks.{word, lock_at, wants_at, block_at, may_have_limit, read_as, wants_read_as};
 
 use crate::want::{Lock, want_of};
-use ka_cpu::{ReadMemory, Regs, are_legal, fetch};
+use ka_state::{ReadMemory, Regs, are_legal, fetch};
 use lock_queue::{BlockUse, Refusal, RequestId, Want, Wants};
 use word36::{Address, LOCKS_A_CALL, Word};
 

@@ -2,11 +2,11 @@
 ghost use Rattle.std.specs.Prelude.{◌≡◌, ◌<◌, nat_le};
 ghost use Rattle.word36.specs.Words.{right_half};
 ghost use Rattle.ka_word.specs.Bytes.{byte_of, incremented, position_of, size_of};
-ghost use Rattle.ka_cpu.specs.Memory.{word_at};
+ghost use Rattle.ka_state.specs.Memory.{word_at};
 ghost use Rattle.call_block.specs.Names.{characters, AreLegalCharacters, text_at, name_at};
 
 use crate::bits::bits;
-use ka_cpu::{ReadMemory, Regs, fetch};
+use ka_state::{ReadMemory, Regs, fetch};
 use lock_queue::{Name, NameCharacters, NameText, Refusal, UserCode};
 use word36::{NAME_LENGTH, Word};
 

@@ -5,7 +5,7 @@ ghost use Rattle.call_block.specs.Locks.{scope_of, terms_of, want_of};
 
 use crate::bits::bits;
 use crate::name::read_name;
-use ka_cpu::{ReadMemory, Regs};
+use ka_state::{ReadMemory, Regs};
 use lock_queue::{BlockUse, Group, Key, Level, Refusal, Scope, Terms, Want};
 use word36::Word;
 

@@ -8,12 +8,12 @@ use Rattle.std.proofs.lemmas.List.{get_or-set_same, get_or-set_other}
 use Rattle.std.proofs.lemmas.Option.{slice_get-get_or}
 use Rattle.word36.specs.Words.{right_half}
 use Rattle.core_store.specs.Cores.{Cores, core_of}
-use Rattle.ka_cpu.specs.Jumps.{flags_of, pc_word}
-use Rattle.ka_cpu.specs.Memory.{are_legal, is_legal, word_at, word_below}
-use Rattle.ka_cpu.specs.declared.outcome.StopReason.TheVariants.{IllegalAddress}
-use Rattle.ka_cpu.specs.declared.registers.Flags.{Flags}
-use Rattle.ka_cpu.specs.declared.registers.Regs.{Regs}
-use Rattle.ka_cpu.proofs.LegalLemmas.{last_word_decides, legal_within}
+use Rattle.ka_state.specs.Registers.{flags_of, pc_word}
+use Rattle.ka_state.specs.Memory.{are_legal, is_legal, word_at, word_below}
+use Rattle.ka_state.specs.declared.outcome.StopReason.TheVariants.{IllegalAddress}
+use Rattle.ka_state.specs.declared.registers.Flags.{Flags}
+use Rattle.ka_state.specs.declared.registers.Regs.{Regs}
+use Rattle.ka_state.proofs.LegalLemmas.{last_word_decides, legal_within}
 use Rattle.lock_queue.specs.declared.request.Request.{Request}
 use Rattle.job_sched.specs.Tables.{job_at}
 use Rattle.job_sched.specs.declared.job.Job.{Job}

@@ -7,7 +7,7 @@ use Rattle.std.proofs.lemmas.List.{get_or-set_same}
 use Rattle.std.proofs.Math.ListN.{length-set}
 use Rattle.word36.specs.declared.sizes.TheConstants.{DATA_WORDS, OUTPUT_RING}
 use Rattle.word36.specs.Words.{left_half, right_half}
-use Rattle.ka_cpu.specs.Memory.{are_legal, is_legal, word_below}
+use Rattle.ka_state.specs.Memory.{are_legal, is_legal, word_below}
 use Rattle.core_store.specs.Cores.{Cores, core_of, with_core}
 use Rattle.tty_lines.specs.Rings.{input_of, room_of}
 use Rattle.lock_queue.specs.declared.call.LockReply.{LockReply}

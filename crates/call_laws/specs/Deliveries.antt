@@ -1,7 +1,7 @@
 -- The delivery of an interrupt, and its end by DEBRK. (PIINI. of the TOPS-10 Monitor Calls Manual, in this project's profile).
 use Rattle.std.specs.Prelude.{ℕ, ◌≡◌, ◌+◌, ◌^◌, ◌<◌, true, false, List, length, Some}
 use Rattle.core_store.specs.Cores.{Cores, core_of}
-use Rattle.ka_cpu.specs.Memory.{are_legal, word_below}
+use Rattle.ka_state.specs.Memory.{are_legal, word_below}
 use Rattle.lock_queue.specs.declared.request.Request.{Request}
 use Rattle.job_sched.specs.Tables.{job_at}
 use Rattle.job_sched.specs.declared.job.Job.{Job}

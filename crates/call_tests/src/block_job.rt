@@ -1,7 +1,7 @@
 //! A job's memory, and what a call finds of a block there.
 
 use call_block::{Block, read_block};
-use ka_cpu::{Flags, ReadMemory, Regs};
+use ka_state::{Flags, ReadMemory, Regs};
 use lock_queue::{BlockUse, Name, Pool, Refusal, Scope, Want};
 use std::alloc::{AllocError, Global};
 use word36::{Address, Word};

@@ -7,7 +7,7 @@ use crate::rows::Row::{Asks, Calls, Does, Sees};
 use crate::rows::Sight::{Flags, InProgress, NoInterrupts, Pending, Requests, Stopped, Switch};
 use crate::rows::{Table, walk_all};
 use job_sched::Stop;
-use ka_cpu::StopReason::IllegalAddress;
+use ka_state::StopReason::IllegalAddress;
 use uuo_calls::CallOutcome::Done;
 
 const RESET: u32 = 0;

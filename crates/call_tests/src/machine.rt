@@ -5,7 +5,7 @@ ghost use Rattle.word36.specs.declared.sizes.TheConstants.{MOST_BLOCKS};
 
 use core_store::{CoreStore, PlainCore};
 use job_sched::{Interrupts, Job, JobTable, NO_FLAGS, NO_INTERRUPTS, Stop, TimeOfDay, Wait};
-use ka_cpu::{Accumulator, CallKind, Flags, Regs, StopReason};
+use ka_state::{Accumulator, CallKind, Flags, Regs, StopReason};
 use lock_queue::LockTable;
 use plain_table::PlainTable;
 use std::alloc::{AllocError, Global};

@@ -6,7 +6,7 @@ use crate::rows::Row::{Does, Sees, Takes, Tty};
 use crate::rows::Sight::{Ac, Room, Stopped, Word};
 use crate::rows::{Table, walk_all};
 use job_sched::{Stop, Wait};
-use ka_cpu::StopReason::IllegalAddress;
+use ka_state::StopReason::IllegalAddress;
 use uuo_calls::CallOutcome;
 
 const INCHRW: u8 = 0;

@@ -1,5 +1,5 @@
 -- What the program does for the arguments of its command line, and the status that it ends with (this project's profile).
-use Rattle.std.specs.Prelude.{◌≡◌, ◌⊎◌, ◌==◌, ◌+◌, ℕ, Bool, false, List, ◌++◌, Option, None, Some, Result, Ok, Err, IfErr}
+use Rattle.std.specs.Prelude.{◌≡◌, ◌⊎◌, ◌==◌, ◌+◌, ℕ, Bool, true, false, List, ◌++◌, Option, None, Some, Result, Ok, Err, IfErr}
 use Rattle.std.specs.Prelude.{if◌then◌else◌, codes, decimal}
 use Rattle.std.specs.Io.KnownBytes.{Keeps}
 use Rattle.clap.specs.Words.{Text, subcommand_of, takes}
@@ -8,6 +8,8 @@ use Rattle.script_io.specs.Transcripts.{Transcript}
 use Rattle.script_io.specs.declared.failures.ServeFailure.{ServeFailure}
 use Rattle.script_io.specs.declared.failures.ServeFailure.TheVariants as failed
 use Rattle.asm_script.specs.Listings.{listing}
+use Rattle.machine.specs.Setups.{Setup}
+use Rattle.op_script.specs.Heads.{is_other, other_text}
 use Rattle.op_script.specs.RunScripts as run
 use Rattle.queue_script.specs.QueueScripts.{transcript}
 use Rattle.script_io.specs.declared.endings.Ending.{Ending}
@@ -73,6 +75,28 @@ ReportsFault (Ok ending.Done) t t' reports_failed = t' ≡ t
 ReportsFault (Ok (ending.Script number)) t t' reports_failed = ReportsOf (place_of_line number) t t' reports_failed
 ReportsFault (Ok (ending.Source fault)) t t' reports_failed = ReportsOf (place_of_source fault) t t' reports_failed
 ReportsFault (Err failure) t t' reports_failed = t' ≡ t
+
+-- ---- the line on a script that is obeyed on another machine than its first line names, which may go to another port, from n to n'
+
+abbrev pub head_line : Setup → Setup → List ℕ
+head_line said taken = codes "lockmon: " ++ (other_text said taken ++ codes "\n")
+
+-- nothing is reported, or that line, which names another machine
+abbrev pub TellsHead : Setup → Option (List ℕ) → Option (List ℕ) → Bool → Type 0
+TellsHead taken n n' notes_failed =
+    (n' ≡ n) ⊎ ((said : Setup) × (is_other said taken ≡ true) × Hands n n' notes_failed (head_line said taken))
+
+-- of the machine of a command; the other commands have none
+abbrev pub TellsHeadFor : Choice → Option (List ℕ) → Option (List ℕ) → Bool → Type 0
+TellsHeadFor (Run blocks quantum) n n' notes_failed =
+    (taken : Setup) × (taken.blocks ≡ blocks) × (taken.quantum ≡ quantum) × TellsHead taken n n' notes_failed
+TellsHeadFor Queue n n' notes_failed = n' ≡ n
+TellsHeadFor Asm n n' notes_failed = n' ≡ n
+
+-- of the machine on which the script is obeyed, for which the arguments ask
+abbrev pub TellsHeadOf : List Text → Option (List ℕ) → Option (List ℕ) → Bool → Type 0
+TellsHeadOf arguments n n' notes_failed =
+    (n' ≡ n) ⊎ ((choice : Choice) × (asked arguments ≡ Some choice) × TellsHeadFor choice n n' notes_failed)
 
 -- ---- the whole program
 

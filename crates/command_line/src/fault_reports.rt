@@ -1,10 +1,12 @@
 //! Why a line was refused, as one line for a person.
 ghost use Rattle.std.specs.Prelude.{◌≡◌, ◌++◌, ◌+◌, [], ◌∷◌, false, Err, IfOk, OnOk, codes, decimal};
 ghost use Rattle.script_io.specs.Endings.{served_as};
-ghost use Rattle.command_line.specs.Programs.{ReportsFault, IsLineOn, place_of_line, place_of_source};
+ghost use Rattle.command_line.specs.Programs.{ReportsFault, TellsHead, IsLineOn, place_of_line, place_of_source};
 
 use crate::lines::{Language, Lines};
 use fault_text::{NO_ENDASM, Refused, explain};
+use machine::Config;
+use op_script::OtherMachine;
 use script_io::{ByteOut, ServeError, SourceFault, push_decimal, write_all};
 use std::alloc::{AllocError, Global};
 use std::convert::AsStr;
@@ -17,6 +19,24 @@ pub fn language_of<S: AsStr>(arguments: &[S]) -> Language {
         Some("run") => Language::Run,
         _ => Language::Queue,
     }
+}
+
+/// Reports it if a script is obeyed on another machine than its first line names. If `notes` fails or there is no memory, this
+/// is left out.
+pub fn report_head<N: ByteOut>(alloc: Global, lines: &Lines, taken: Config, notes: &mut N)
+    requires { N.has_failed notes.old ≡ false }
+    ensures { TellsHead taken (N.written notes.old) (N.written notes.new) (N.has_failed notes.new) }
+{
+    let Some(said) = lines.head() else {
+        return;
+    };
+    let Some(other) = OtherMachine::of(said, taken) else {
+        return;
+    };
+    let Ok(text) = format!(in alloc; "lockmon: {other}\n") else {
+        return;
+    };
+    let _ = write_all(notes, text.as_str().as_bytes());
 }
 
 /// Reports the line that was refused, if one was: `lockmon: line n: ..`. Where `errors` fails or there is no memory,

@@ -2,7 +2,9 @@
 ghost use Rattle.std.specs.Prelude.{◌≡◌, ◌≤◌, ◌++◌, [], drop, length, OnOk};
 ghost use Rattle.command_line.specs.Keeping.{IsEndOf};
 
+use machine::Config;
 use memchr::{memchr, memrchr};
+use op_script::head_of;
 use script_io::without_return;
 use std::alloc::{AllocError, Global};
 use std::marker::Model;
@@ -44,6 +46,8 @@ pub struct Lines {
     /// How many bytes are kept before lines are dropped.
     limit: usize,
     is_lost: bool,
+    /// The machine that the first line names, if that was dropped.
+    head: Option<Config>,
 }
 
 impl Model for Lines {
@@ -69,6 +73,7 @@ impl Lines {
             dropped: 0,
             limit: KEPT,
             is_lost: false,
+            head: None,
         }
     }
 
@@ -92,6 +97,14 @@ impl Lines {
         self.is_lost
     }
 
+    /// The machine on which the script is to be obeyed by its first line, if that names one.
+    pub fn head(&self) -> Option<Config> {
+        if self.dropped > 0 {
+            return self.head;
+        }
+        head_of(line_at(self.bytes.as_slice(), 1)?)
+    }
+
     /// Adds bytes.
     pub fn push(&mut self, bytes: &[u8])
         ensures { IsEndOf (self.old ++ bytes.now) self.new }
@@ -110,6 +123,7 @@ impl Lines {
         if self.bytes.len() < self.limit {
             return;
         }
+        self.head = self.head();
         let finished = finished(self.language, self.bytes.as_slice());
         let count = finished.length.min(self.bytes.len());
         drop_front(&mut self.bytes, count);

@@ -7,12 +7,13 @@ ghost use Rattle.script_io.specs.Serves.{Serves, Blames};
 ghost use Rattle.script_io.specs.declared.failures.ServeFailure.TheVariants as failed;
 ghost use Rattle.program_shell.specs.Reports.{Hands};
 ghost use Rattle.command_line.specs.Arguments.{IsDue, IsRight};
-ghost use Rattle.command_line.specs.Programs.{ReportsArguments, Runs, RunsReporting, ReportsAnswer, failure_line, language_of, status_of};
+ghost use Rattle.command_line.specs.Programs.{ReportsArguments, Runs, RunsReporting, ReportsAnswer, TellsHeadFor, TellsHeadOf, failure_line, language_of, status_of};
 
 use crate::arguments::choice;
 use crate::commands::Choice;
-use crate::fault_reports::report_fault;
+use crate::fault_reports::{report_fault, report_head};
 use crate::kept::KeptIn;
+use crate::lines::Lines;
 use asm_script::serve_asm;
 use machine::Config;
 use op_script::serve;
@@ -47,33 +48,61 @@ pub fn program<S: AsStr, R: ByteIn, W: ByteOut, E: ByteOut>(
 }
 
 /// The program over a reader that keeps what passes it. Where a line was refused, a line on standard error says what
-/// is wrong with it: it goes to `reports`, which may be another port on the same stream.
-pub fn program_reporting<S: AsStr, R: ByteIn + Drop, W: ByteOut, E: ByteOut, T: ByteOut>(
+/// is wrong with it: it goes to `reports`; and if a script is obeyed on another machine than its first line names, a line
+/// to `notes` says so. These may be other ports on the same stream.
+pub fn program_reporting<
+    S: AsStr,
+    R: ByteIn + Drop,
+    W: ByteOut,
+    E: ByteOut,
+    T: ByteOut,
+    N: ByteOut,
+>(
     alloc: Global,
     arguments: &[S],
     reader: &mut KeptIn<R>,
     writer: &mut W,
     errors: &mut E,
     reports: &mut T,
+    notes: &mut N,
 ) -> u8
     requires reader_sound { ⟦<KeptIn<R> as ByteIn>⟧.has_failed reader.old ≡ false }
     requires writer_sound { W.has_failed writer.old ≡ false }
     requires errors_sound { E.has_failed errors.old ≡ false }
     requires reports_sound { T.has_failed reports.old ≡ false }
+    requires notes_sound { N.has_failed notes.old ≡ false }
     requires few { ⟦<KeptIn<R> as ByteIn>⟧.reads_left reader.old ≤ 2 ^ 63 }
-    ensures { RunsReporting (map S.text arguments.now)
+    ensures runs { RunsReporting (map S.text arguments.now)
         (⟦<KeptIn<R> as ByteIn>⟧.to_come reader.old) (⟦<KeptIn<R> as ByteIn>⟧.to_come reader.new)
         (W.written writer.old) (W.written writer.new) (E.written errors.old) (E.written errors.new)
         (T.written reports.old) (T.written reports.new) (⟦<KeptIn<R> as ByteIn>⟧.has_failed reader.new)
         (W.has_failed writer.new) (E.has_failed errors.new) (T.has_failed reports.new) result }
+    ensures notes { TellsHeadOf (map S.text arguments.now) (N.written notes.old) (N.written notes.new) (N.has_failed notes.new) }
 {
     match choice(alloc, arguments) {
         Ok(choice) => {
             let answer = serve_choice(alloc, choice, reader, writer);
+            report_machine(alloc, &reader.lines, choice, notes);
             report_fault(alloc, &reader.lines, answer, reports);
             status_of(answer, errors)
         }
         Err(refusal) => refuse_arguments(alloc, refusal, errors),
+    }
+}
+
+/// Reports it if the script of this command is obeyed on another machine than its first line names.
+fn report_machine<N: ByteOut>(alloc: Global, lines: &Lines, choice: Choice, notes: &mut N)
+    requires range { IsRight choice }
+    requires notes_sound { N.has_failed notes.old ≡ false }
+    ensures { TellsHeadFor choice (N.written notes.old) (N.written notes.new) (N.has_failed notes.new) }
+{
+    match choice {
+        Choice::Run { blocks, quantum } => {
+            let taken = config_of(blocks, quantum);
+            report_head(alloc, lines, taken, notes);
+        }
+        Choice::Queue => {}
+        Choice::Asm => {}
     }
 }
 

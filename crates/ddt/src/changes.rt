@@ -1,5 +1,6 @@
 //! Commands that change the machine by hand: words, where jobs start, and what is typed in and out.
 
+use crate::examining::open;
 use crate::runs::run_from_start;
 use crate::session::Session;
 use ddt_commands::{Refusal, first_character};
@@ -27,6 +28,15 @@ pub fn deposit(session: &mut Session, timeline: &mut Timeline, word: Word) {
     make(&mut session.answer, timeline, entry);
     session.is_open = false;
     session.last = word;
+}
+
+/// `a/ value`: opens an address of the open job, whose word is shown, and deposits the value there.
+pub fn change(session: &mut Session, timeline: &mut Timeline, address: u32, word: Word) {
+    session.is_open = false;
+    open(session, timeline, address);
+    if session.is_open {
+        deposit(session, timeline, word);
+    }
 }
 
 /// Makes an entry happen whose answer is not shown.

@@ -1,7 +1,7 @@
 //! Addresses that are opened, and quantities that are shown.
 
 use crate::session::Session;
-use ddt_commands::{OutputMode, Refusal};
+use ddt_commands::{Opening, OutputMode, Refusal, Retype};
 use ddt_show::{refuse, word_line};
 use ddt_timeline::Timeline;
 use word36::Word;
@@ -23,10 +23,32 @@ pub fn show_last(session: &mut Session, mode: OutputMode) {
     }
 }
 
-/// `value=`: shows a value in octal.
-pub fn evaluate(session: &mut Session, value: Word) {
+/// `a[`, `a]` and `a!`: opens an address of the open job, and shows the word there in octal, as an instruction, or not.
+pub fn open_as(session: &mut Session, timeline: &Timeline, address: u32, opening: Opening) {
+    let mode = session.mode;
+    match opening {
+        Opening::Octal => session.mode = OutputMode::Octal,
+        Opening::Symbolic => session.mode = OutputMode::Symbolic,
+        Opening::Unseen => return open_unseen(session, timeline, address),
+    }
+    open(session, timeline, address);
+    session.mode = mode;
+}
+
+/// Opens an address of the open job, and does not show the word there.
+fn open_unseen(session: &mut Session, timeline: &Timeline, address: u32) {
+    let Some(word) = timeline.machine().peek(session.open, address) else {
+        return refuse(&mut session.answer, Refusal::NoWord);
+    };
+    session.last = word;
+    session.here = address;
+    session.is_open = true;
+}
+
+/// `value=`, `value_` and `value;`: shows a value in octal, as an instruction, or as text.
+pub fn evaluate(session: &mut Session, value: Word, retype: Retype) {
     session.last = value;
-    show_last(session, OutputMode::Octal);
+    show_last(session, retype.mode());
 }
 
 /// `.EX a-b`: shows the words from the first address to the last.

@@ -1,7 +1,7 @@
 //! Lines that are obeyed.
 
-use crate::changes::{deposit, make, start_at, take, type_at};
-use crate::examining::{evaluate, examine, open, show_last};
+use crate::changes::{change, deposit, make, start_at, take, type_at};
+use crate::examining::{evaluate, examine, open, open_as, show_last};
 use crate::going_back::{back, back_to, back_to_write, forward};
 use crate::histories::show_history;
 use crate::recording::record;
@@ -138,6 +138,7 @@ fn obey_move(session: &mut Session, timeline: &mut Timeline, command: &Command<'
     }
     match *command {
         Command::Deposit(word) => deposit(session, timeline, word),
+        Command::Change(address, word) => change(session, timeline, address, word),
         Command::Go => go(session, timeline),
         Command::GoAt(address) => start_at(session, timeline, address),
         Command::Proceed(times) => proceed(session, timeline, times, RUN_STEPS as u32),
@@ -159,7 +160,8 @@ fn obey_look(session: &mut Session, timeline: &Timeline, command: &Command<'_>) 
         Command::Previous => open(session, timeline, previous_address(session.here)),
         Command::Addressed => open(session, timeline, session.last.right()),
         Command::Open(address) => open(session, timeline, address),
-        Command::Evaluate(word) => evaluate(session, word),
+        Command::OpenAs(address, opening) => open_as(session, timeline, address, opening),
+        Command::Evaluate(word, retype) => evaluate(session, word, retype),
         Command::SetMode(mode) => session.mode = mode,
         Command::Retype(retype) => show_last(session, retype.mode()),
         Command::Examine(first, last) => examine(session, timeline, first, last),

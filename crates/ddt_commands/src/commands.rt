@@ -10,8 +10,12 @@ pub enum OutputMode {
     Symbolic,
     /// As a number in octal: `$C`.
     Octal,
-    /// As text: `$T`.
+    /// As text in ASCII and in SIXBIT: `$T`.
     Text,
+    /// As five characters of ASCII: `$7T`.
+    Ascii,
+    /// As six characters of SIXBIT: `$6T`.
+    Sixbit,
     /// As two halves: `$H`.
     Halves,
     /// As a number of this radix, 2 to 16: `$nR`.
@@ -38,6 +42,17 @@ impl Retype {
             Retype::Text => OutputMode::Text,
         }
     }
+}
+
+/// How an address is opened.
+#[derive(Clone, Copy)]
+pub enum Opening {
+    /// Its word is shown in octal: `a[`.
+    Octal,
+    /// Its word is shown as an instruction: `a]`.
+    Symbolic,
+    /// Its word is not shown: `a!`.
+    Unseen,
 }
 
 /// Which words a search finds.
@@ -88,10 +103,14 @@ pub enum Command<'a> {
     Addressed,
     /// `a/`: opens an address.
     Open(u32),
+    /// `a[`, `a]` or `a!`: opens an address in another way.
+    OpenAs(u32, Opening),
+    /// `a/ value`: opens an address, and deposits the value there.
+    Change(u32, Word),
     /// A value: deposits it at the open address.
     Deposit(Word),
-    /// `value=`: shows a value.
-    Evaluate(Word),
+    /// `value=`, `value_` or `value;`: shows a value.
+    Evaluate(Word, Retype),
     /// `$S` and the like: sets the mode in which words are shown.
     SetMode(OutputMode),
     /// `=`, `_` or `;`: shows the last quantity once more.

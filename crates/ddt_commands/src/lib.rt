@@ -13,10 +13,11 @@ mod numbers;
 mod reader;
 mod refusals;
 mod spelled;
+mod typed_texts;
 mod values;
 
 pub use characters::{Codes, ascii_codes, sixbit_codes};
-pub use commands::{Command, NewBreakpoint, OutputMode, Retype, Search, SearchKind};
+pub use commands::{Command, NewBreakpoint, Opening, OutputMode, Retype, Search, SearchKind};
 pub use dot_commands::RUN_STEPS;
 pub use line_errors::LineError;
 pub use lines::read_line;

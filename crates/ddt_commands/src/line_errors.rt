@@ -58,6 +58,20 @@ pub enum LineError {
     NoMask,
     /// There is no such radix.
     NoRadix,
+    /// Digits are no binary number.
+    NoBinary,
+    /// The letter after `^` is that of no radix.
+    NoRadixLetter,
+    /// Something is to be divided by 0.
+    NoQuotient,
+    /// The delimiter after a text is missing.
+    NoDelimiter,
+    /// A text has more characters than a word.
+    LongText,
+    /// A character is none of SIXBIT.
+    NoSixbit,
+    /// There is no such mode of texts.
+    NoTextMode,
     /// Something stands behind a command of one word.
     BehindCommand,
 }
@@ -111,6 +125,17 @@ impl LineError {
                 "? a condition is a place, one of = <> < > <= >=, and a value, as in IF COUNT>5"
             }
             LineError::NoMask => "? a mask stands between < and >, as in 5<777>$W",
+            LineError::NoBinary => "? ^B is followed by a number in binary",
+            LineError::NoRadixLetter =>
+                "? ^ is followed by D, O or B for decimal, octal or binary, as in ^D10",
+            LineError::NoQuotient => "? nothing is divided by 0",
+            LineError::NoDelimiter => {
+                "? a text is between two characters of one kind, as in \"/ABCDE/; one character as in \"A\""
+            }
+            LineError::LongText => "? a word has at most 5 characters of ASCII, and 6 of SIXBIT",
+            LineError::NoSixbit => "? a character of SIXBIT is one from blank to _",
+            LineError::NoTextMode =>
+                "? $T shows a word as text in ASCII and SIXBIT, $6T and $7T in one of them",
             _ => "? nothing may stand behind this command",
         }
     }

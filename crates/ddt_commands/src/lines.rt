@@ -1,7 +1,7 @@
 //! Whole lines, each read as a command.
 
 use crate::breakpoints::{cut_limits, read_breakpoint};
-use crate::commands::{Command, OutputMode, Retype, Search, SearchKind};
+use crate::commands::{Command, Opening, OutputMode, Retype, Search, SearchKind};
 use crate::dot_commands::read_dot_command;
 use crate::escaped::{Escaped, cut_at_escape};
 use crate::line_errors::LineError;
@@ -47,9 +47,50 @@ fn read_deposit<'a>(text: &[u8], scope: &Scope<'_>) -> Result<Command<'a>, LineE
     Ok(Command::Deposit(read_value(text, scope)?))
 }
 
+/// The mode of a letter after `$`: `$S`, and `$D` and `$O` as DDT has them. There is no floating point, so
+/// `$F` shows words in octal.
+fn mode_of(letter: u8) -> Option<OutputMode> {
+    match letter {
+        b'S' => Some(OutputMode::Symbolic),
+        b'C' | b'O' | b'F' => Some(OutputMode::Octal),
+        b'D' => Some(OutputMode::Radix(10)),
+        b'T' => Some(OutputMode::Text),
+        b'H' => Some(OutputMode::Halves),
+        _ => None,
+    }
+}
+
+/// Reads `$nR` and `$nT`, whose n is in decimal.
+fn read_numbered_mode(line: Escaped<'_>) -> Result<OutputMode, LineError> {
+    let wanted = number(10, line.digits);
+    match (line.letter, wanted) {
+        (b'T', Some(6)) => Ok(OutputMode::Sixbit),
+        (b'T', Some(7)) => Ok(OutputMode::Ascii),
+        (b'T', _) => Err(LineError::NoTextMode),
+        (_, Some(radix)) if LEAST_RADIX <= radix && radix <= MOST_RADIX => {
+            Ok(OutputMode::Radix(radix as u8))
+        }
+        _ => Err(LineError::NoRadix),
+    }
+}
+
+/// Whether there is nothing before `$`, or one more `$`, as in `$$S`: modes last either way.
+fn is_of_mode(before: &[u8]) -> bool {
+    match before {
+        [] => true,
+        [first] => is_escape(*first),
+        _ => false,
+    }
+}
+
 /// Reads a command of `$`, or a value where its letter is that of no command.
 fn read_escaped<'a>(line: Escaped<'_>, scope: &Scope<'_>) -> Result<Command<'a>, LineError> {
     let is_alone = line.before.is_empty() && line.digits.is_empty();
+    if is_of_mode(line.before) && line.digits.is_empty() {
+        if let Some(mode) = mode_of(line.letter) {
+            return Ok(Command::SetMode(mode));
+        }
+    }
     match line.letter {
         b'B' => read_breakpoint(line, b"".as_slice(), scope),
         b'G' if is_alone => Ok(Command::Go),
@@ -57,32 +98,83 @@ fn read_escaped<'a>(line: Escaped<'_>, scope: &Scope<'_>) -> Result<Command<'a>,
         b'G' => Err(LineError::NoEscape),
         b'P' | b'X' => read_run(line),
         b'W' | b'N' | b'E' => read_search(line, scope),
-        b'R' if line.before.is_empty() => match number(10, line.digits) {
-            Some(radix) if LEAST_RADIX <= radix && radix <= MOST_RADIX => {
-                Ok(Command::SetMode(OutputMode::Radix(radix as u8)))
-            }
-            _ => Err(LineError::NoRadix),
-        },
-        b'S' if is_alone => Ok(Command::SetMode(OutputMode::Symbolic)),
-        b'C' if is_alone => Ok(Command::SetMode(OutputMode::Octal)),
-        b'T' if is_alone => Ok(Command::SetMode(OutputMode::Text)),
-        b'H' if is_alone => Ok(Command::SetMode(OutputMode::Halves)),
+        b'R' | b'T' if is_of_mode(line.before) => {
+            Ok(Command::SetMode(read_numbered_mode(line)?))
+        }
         _ => read_deposit(line.text, scope),
     }
 }
 
-/// Reads a breakpoint with limits, `a/`, `value=`, a command of `$`, or a value to deposit.
+/// Reads `a[`, `a]` or `a!`.
+fn read_opening<'a>(
+    text: &[u8],
+    opening: Opening,
+    scope: &Scope<'_>,
+) -> Result<Command<'a>, LineError> {
+    Ok(Command::OpenAs(read_address(text, scope)?, opening))
+}
+
+/// Reads `value=`, `value_` or `value;`.
+fn read_shown<'a>(
+    text: &[u8],
+    retype: Retype,
+    scope: &Scope<'_>,
+) -> Result<Command<'a>, LineError> {
+    Ok(Command::Evaluate(read_value(text, scope)?, retype))
+}
+
+/// Reads `a/ value`, if the line has that form: no quotation mark is before the first `/`.
+fn read_change<'a>(text: &[u8], scope: &Scope<'_>) -> Option<Result<Command<'a>, LineError>> {
+    let (address, value) = cut_at(text, b'/')?;
+    if value.is_empty() || cut_at(address, b'"').is_some() {
+        return None;
+    }
+    Some(
+        match (read_address(address, scope), read_value(value, scope)) {
+            (Ok(address), Ok(word)) => Ok(Command::Change(address, word)),
+            (Err(error), _) => Err(error),
+            (_, Err(error)) => Err(error),
+        },
+    )
+}
+
+/// Reads a line with a text in quotation marks, if it is a value to deposit, or `a/ value`: the text may have any character.
+fn read_quoted<'a>(text: &[u8], scope: &Scope<'_>) -> Option<Command<'a>> {
+    cut_at(text, b'"')?;
+    match (read_value(text, scope), read_change(text, scope)) {
+        (Ok(word), _) => Some(Command::Deposit(word)),
+        (Err(_), Some(Ok(change))) => Some(change),
+        _ => None,
+    }
+}
+
+/// Reads `a/ value`, a command of `$`, or a value to deposit.
+fn read_other<'a>(text: &[u8], scope: &Scope<'_>) -> Result<Command<'a>, LineError> {
+    match (read_change(text, scope), cut_at_escape(text)) {
+        (Some(Ok(change)), _) => Ok(change),
+        (_, Some(line)) => read_escaped(line, scope),
+        (Some(change), None) => change,
+        (None, None) => read_deposit(text, scope),
+    }
+}
+
+/// Reads a breakpoint with limits, `a/` and the like, `value=` and the like, a command of `$`, or a value to deposit.
 fn read_value_line<'a>(text: &[u8], scope: &Scope<'_>) -> Result<Command<'a>, LineError> {
     if let Some((line, limits)) = cut_limits(text) {
         return read_breakpoint(line, limits, scope);
     }
+    if let Some(command) = read_quoted(text, scope) {
+        return Ok(command);
+    }
     match text {
         [front @ .., b'/'] => Ok(Command::Open(read_address(front, scope)?)),
-        [front @ .., b'='] => Ok(Command::Evaluate(read_value(front, scope)?)),
-        _ => match cut_at_escape(text) {
-            Some(line) => read_escaped(line, scope),
-            None => read_deposit(text, scope),
-        },
+        [front @ .., b'['] => read_opening(front, Opening::Octal, scope),
+        [front @ .., b']'] => read_opening(front, Opening::Symbolic, scope),
+        [front @ .., b'!'] => read_opening(front, Opening::Unseen, scope),
+        [front @ .., b'='] => read_shown(front, Retype::Octal, scope),
+        [front @ .., b'_'] => read_shown(front, Retype::Symbolic, scope),
+        [front @ .., b';'] => read_shown(front, Retype::Text, scope),
+        _ => read_other(text, scope),
     }
 }
 

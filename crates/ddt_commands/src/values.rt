@@ -1,4 +1,4 @@
-//! Values: sums of numbers and symbols, two halves, and instructions.
+//! Values: sums of numbers, texts and symbols, two halves, and instructions.
 
 ghost use Rattle.std.specs.Prelude.{◌≤◌};
 
@@ -6,6 +6,7 @@ use crate::limits::Limit;
 use crate::line_errors::LineError;
 use crate::numbers::number;
 use crate::reader::{Reader, is_escape};
+use crate::typed_texts::{ascii_text, sixbit_text};
 use arrayvec::ArrayString;
 use ka_isa::named;
 use word36::{Word, sixbit};
@@ -108,33 +109,81 @@ fn word_value(word: &[u8], scope: &Scope<'_>) -> Result<i64, LineError> {
     }
 }
 
-/// Reads a term: a number, a name, `.` or `$Q`.
+/// The value of digits after `^` and a letter: decimal after `^D`, octal after `^O`, binary after `^B`.
+fn radix_value(letter: u8, digits: &[u8]) -> Result<i64, LineError> {
+    match letter.to_ascii_uppercase() {
+        b'D' => typed(10, digits, LineError::NoDecimal),
+        b'O' => typed(8, digits, LineError::NoOctal),
+        b'B' => typed(2, digits, LineError::NoBinary),
+        _ => Err(LineError::NoRadixLetter),
+    }
+}
+
+/// Reads a term: a number, a name, `.`, `$Q`, a text as in `"/ABCDE/` or `$"/ABCDEF/`, or digits of another radix as in `^D10`.
 fn term(reader: &mut Reader<'_>) -> Result<i64, LineError> {
     reader.skip();
     match reader.rest {
+        [b'"', rest @ ..] => {
+            let (value, after) = ascii_text(rest)?;
+            reader.rest = after;
+            return Ok(value);
+        }
+        [first, b'"', rest @ ..] if is_escape(*first) => {
+            let (value, after) = sixbit_text(rest)?;
+            reader.rest = after;
+            return Ok(value);
+        }
         [first, b'Q' | b'q', rest @ ..] if is_escape(*first) => {
             reader.rest = rest;
             return Ok(signed(reader.scope.last));
         }
         [first, ..] if is_escape(*first) => return Err(LineError::NoEscape),
+        [b'^', letter, rest @ ..] => {
+            reader.rest = rest;
+            let digits = reader.word();
+            return radix_value(*letter, digits);
+        }
         _ => {}
     }
     let word = reader.word();
-    reader.skip();
     word_value(word, reader.scope)
 }
 
-/// Reads a sum of terms with `+` and `-`; a `-` may stand before the first. It has as many bits as it takes.
+/// The quotient of two numbers, cut towards 0.
+fn quotient(value: i64, divisor: i64) -> Result<i64, LineError> {
+    if divisor == 0 {
+        return Err(LineError::NoQuotient);
+    }
+    Ok(value.saturating_div(divisor))
+}
+
+/// Reads a product of terms with `*` and `'`, which divides as in DDT.
+fn product(reader: &mut Reader<'_>) -> Result<i64, LineError> {
+    let mut value = term(reader)?;
+    for _ in 0..reader.rest.len() {
+        reader.skip();
+        if reader.eat(b'*') {
+            value = value.saturating_mul(term(reader)?);
+        } else if reader.eat(b'\'') {
+            value = quotient(value, term(reader)?)?;
+        } else {
+            break;
+        }
+    }
+    Ok(value)
+}
+
+/// Reads a sum of products with `+` and `-`; a `-` may stand before the first. It has as many bits as it takes.
 fn sum(reader: &mut Reader<'_>) -> Result<i64, LineError> {
     reader.skip();
     let mut value = 0i64;
     let mut is_minus = reader.eat(b'-');
     for _ in 0..reader.rest.len().saturating_add(1) {
-        let term = term(reader)?;
+        let product = product(reader)?;
         value = if is_minus {
-            value.saturating_sub(term)
+            value.saturating_sub(product)
         } else {
-            value.saturating_add(term)
+            value.saturating_add(product)
         };
         is_minus = reader.eat(b'-');
         if !is_minus && !reader.eat(b'+') {
@@ -144,9 +193,24 @@ fn sum(reader: &mut Reader<'_>) -> Result<i64, LineError> {
     Ok(value)
 }
 
-/// Reads a sum, or two with `,,` between them for the halves of a word.
+/// Reads the index register after an address, if there is one, and puts both together with these bits.
+fn with_index(reader: &mut Reader<'_>, address: i64, bits: u64) -> Result<Word, LineError> {
+    let address = Limit::Address.bits(address)?;
+    let index = index_register(reader)?;
+    Ok(Word::low_bits(bits | index | address))
+}
+
+/// Reads a sum, two with `,,` between them for the halves of a word, or an address as in `@5(3)`.
 fn halves(reader: &mut Reader<'_>) -> Result<Word, LineError> {
+    reader.skip();
+    if reader.eat(b'@') {
+        let address = read_operand(reader, false)?;
+        return with_index(reader, address, INDIRECT);
+    }
     let first = sum(reader)?;
+    if let [b'(', ..] = reader.rest {
+        return with_index(reader, first, 0);
+    }
     let [b',', b',', rest @ ..] = reader.rest else {
         return Ok(Word::low_bits(Limit::Word.bits(first)?));
     };
@@ -198,14 +262,11 @@ fn with_operands(reader: &mut Reader<'_>, word: Word) -> Result<Word, LineError>
         is_indirect = reader.eat(b'@');
         address = read_operand(reader, true)?;
     }
-    let address = Limit::Address.bits(address)?;
-    let index = index_register(reader)?;
     let indirect = if is_indirect { INDIRECT } else { 0 };
-    let number = word.number() | accumulator | index | indirect | address;
-    Ok(Word::low_bits(number))
+    with_index(reader, address, word.number() | accumulator | indirect)
 }
 
-/// Reads a text as a value: a sum, two halves, or an instruction.
+/// Reads a text as a value: a sum, two halves, an address with `@` or an index register, or an instruction.
 pub fn read_value(text: &[u8], scope: &Scope<'_>) -> Result<Word, LineError> {
     let mut reader = Reader { rest: text, scope };
     reader.skip();

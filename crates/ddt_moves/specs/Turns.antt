@@ -3,7 +3,7 @@ use Rattle.std.specs.List.{filter}
 use Rattle.std.specs.Prelude.{◌+◌, ◌-◌, ◌^◌, ◌%◌, ℕ, min, nat_le, nat_lt, Bool, if◌then◌else◌, List, [], ◌∷◌, length, drop}
 use Rattle.std.specs.Prelude.{slice_get, slice_index_or, Option, Some, None}
 use Rattle.word36.specs.declared.sizes.TheConstants.{JOBS}
-use Rattle.ka_cpu.specs.declared.outcome.StopReason.TheVariants.{Halt}
+use Rattle.ka_state.specs.declared.outcome.StopReason.TheVariants.{Halt}
 use Rattle.job_sched.specs.declared.job.Stop.{Stop}
 use Rattle.job_sched.specs.declared.job.Stop.TheVariants.{Fault, Exit, Monitor}
 use Rattle.machine.specs.Between.{next_in, pc_in}

@@ -8,7 +8,7 @@ use crate::replays::Replay;
 use crate::turns::{is_job, pc_of};
 use ddt_timeline::Timeline;
 use job_sched::Stop;
-use ka_cpu::StopReason;
+use ka_state::StopReason;
 use std::alloc::AllocError;
 use word36::Address;
 

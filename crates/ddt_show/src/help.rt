@@ -3,13 +3,17 @@
 use program_shell::PendingText;
 
 /// A line on each command, which stands in the first 16 characters.
-static COMMANDS: [&str; 43] = [
+static COMMANDS: [&str; 47] = [
     "a/               opens a place and shows its word",
     "(empty)          the next place; ^ the one before; TAB the one that the last word addresses",
     "value            puts the value in the place that is open",
+    "a[ a] a!         the same, shown in octal, as an instruction, not at all; a/ value puts the value there",
     "$S $C $T $H $nR  shows words as instructions, in octal, as text, halves, in radix n, 2 to 16 (decimal)",
+    "$D $6T $7T       .. in decimal, as SIXBIT, as ASCII; $O and $F are $C",
     "= _ ;            the last quantity in octal, as an instruction, as text",
-    "expr=            a value: octal, 12. decimal, labels, . and $Q, + and -, 1,,LABEL, MOVE 1,LABEL",
+    "expr=            a value in octal; expr_ as an instruction, expr; as text",
+    "values           octal, 12. and ^D12, labels, . and $Q, + - * and ' (divides), 1,,LABEL, @5(3), MOVE 1,LABEL",
+    "\"/ABCDE/ \"A\"     texts as values: ASCII from the left, one character; $\"/ABCDEF/ SIXBIT",
     "a$B              sets a breakpoint of the open job at a; a$nB that of number n, 1 to 8",
     "a$B IF b=v       .. that stops only where the word at b is v; <> < > <= >= compare signed numbers",
     "a$B TIMES n      .. that stops from the n-th time on (octal); a$B IF b=v TIMES n: only those times count",

@@ -30,6 +30,12 @@ fn write_text<W: fmt::Write>(word: Word, f: &mut fmt::Formatter<W>) -> fmt::Resu
     write!(f, "ASCII \"{ascii}\", SIXBIT '{sixbit}'")
 }
 
+/// Writes five characters of ASCII, or six of SIXBIT, between quotation marks or apostrophes.
+fn write_codes<W: fmt::Write>(codes: &[u8], mark: char, f: &mut fmt::Formatter<W>) -> fmt::Result {
+    let codes = Codes { codes };
+    write!(f, "{mark}{codes}{mark}")
+}
+
 /// The digit of a value from 0 to 15.
 fn digit(value: u64) -> u8 {
     let value = (value & 0o17) as u8;
@@ -77,6 +83,8 @@ impl fmt::Display for WordText<'_> {
             }
             OutputMode::Octal => self.word.fmt(f),
             OutputMode::Text => write_text(self.word, f),
+            OutputMode::Ascii => write_codes(&ascii_codes(self.word), '"', f),
+            OutputMode::Sixbit => write_codes(&sixbit_codes(self.word), '\'', f),
             OutputMode::Halves => {
                 let left = Reference {
                     places: self.places,

@@ -1,7 +1,7 @@
 //! The commands of a script of `lockmon run`.
 
-use op_script::{MOST_ADDRESS, MOST_EVENTS, MOST_NUMBER, NAME_LENGTH};
 use queue_faults::{Param, Range, Shape};
+use run_commands::{MOST_ADDRESS, MOST_EVENTS, MOST_NUMBER, NAME_LENGTH};
 use word36::DATA_WORDS;
 
 const JOB: Param = Param::Number(Range {

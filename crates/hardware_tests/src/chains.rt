@@ -2,7 +2,8 @@
 
 use crate::SliceCore;
 use crate::slice_core::{USER, fresh, look, put};
-use ka_cpu::{Outcome, Regs, StopReason, step};
+use ka_cpu::step;
+use ka_state::{Outcome, Regs, StopReason};
 use word36::Word;
 
 /// MOVE 1,@200 with a chain of so many indirect words from 200 octal on, the last of which names 1000

@@ -3,13 +3,14 @@
 ghost use Rattle.std.specs.Prelude.{◌≡◌, ◌≢◌, ◌≤◌, ◌<◌, ◌+◌, ◌-◌, ◌*◌, ◌↔◌, ℕ, [], length, slice_get, slice_set};
 ghost use Rattle.std.specs.Prelude.{replicate, nat_lt, take, OnOk, OnErr, IfOk, IsOk, IsTrue};
 ghost use Rattle.ka_cpu.specs.Exec.{exec};
-ghost use Rattle.ka_cpu.specs.Memory.{word_at};
+ghost use Rattle.ka_state.specs.Memory.{word_at};
 ghost use Rattle.core_store.specs.Cores.{IsJob, IsStore, Cores, core_of, blocks_of, with_core};
 ghost use Rattle.core_store.specs.Cores.{all_free, taken, resized, given, resized_words};
 ghost use Rattle.std.specs.Prelude.{Some, None};
 
 use core_store::{CoreStore, NoCore};
-use ka_cpu::{CoreWords, JobMemory, Outcome, Regs, fetch_kept, step};
+use ka_cpu::step;
+use ka_state::{CoreWords, JobMemory, Outcome, Regs, fetch_kept};
 use std::alloc::{AllocError, Global};
 use word36::{BLOCK_WORDS, Word};
 

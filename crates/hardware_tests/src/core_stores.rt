@@ -6,7 +6,7 @@ use crate::core_acts::{Act, answer, walk};
 use crate::core_tables::{ALL_IN_ONE, GROWN, MOVED_TOGETHER, NEW_CORE};
 use crate::{come_and_go, copy_word, fetch_in, hand_over, log_in, step_beside, step_in, write_in};
 use core_store::{BlockCore, CoreStore, NoCore, PlainCore};
-use ka_cpu::{CoreWords, Flags, JobMemory, Outcome, ReadMemory, Regs};
+use ka_state::{CoreWords, Flags, JobMemory, Outcome, ReadMemory, Regs};
 use std::alloc::{AllocError, Global};
 use std::process::Abort;
 use std::test::Fail;

@@ -2,7 +2,8 @@
 
 use crate::SliceCore;
 use crate::slice_core::{USER, fresh, put};
-use ka_cpu::{Outcome, StopReason, step};
+use ka_cpu::step;
+use ka_state::{Outcome, StopReason};
 use word36::Word;
 
 /// What an operation with AC 1 and E 200 octal comes to here, by the table of the manual's operations that this

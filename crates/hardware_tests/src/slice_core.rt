@@ -2,7 +2,7 @@
 
 ghost use Rattle.std.specs.Prelude.{◌≡◌};
 
-use ka_cpu::{JobMemory, ReadMemory};
+use ka_state::{JobMemory, ReadMemory};
 use word36::Word;
 
 /// A lent slice as the core of a job.
@@ -49,7 +49,7 @@ pub use job::{USER, fresh, look, put};
 
 #[cfg(test)]
 mod job {
-    use ka_cpu::{Flags, Regs};
+    use ka_state::{Flags, Regs};
     use word36::{Address, Word};
 
     /// The left half of a PC word with the flag User alone.

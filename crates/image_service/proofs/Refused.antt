@@ -7,19 +7,19 @@ use Rattle.ka_isa.specs.declared.Family.{Family}
 use Rattle.ka_isa.specs.declared.Family.TheVariants.{Calli, Ttcall}
 use Rattle.ka_isa.specs.Fields.{fields_of}
 use Rattle.ka_isa.specs.Families.{family_of}
-use Rattle.ka_cpu.specs.declared.registers.Regs.{Regs}
-use Rattle.ka_cpu.specs.declared.outcome.CallKind.{CallKind}
-use Rattle.ka_cpu.specs.declared.outcome.CallKind.TheVariants as call
-use Rattle.ka_cpu.specs.declared.outcome.Outcome.TheVariants as outcome
-use Rattle.ka_cpu.specs.declared.outcome.StopReason.{StopReason}
-use Rattle.ka_cpu.specs.declared.outcome.StopReason.TheVariants.{AddressChain, IllegalInstruction}
+use Rattle.ka_state.specs.declared.registers.Regs.{Regs}
+use Rattle.ka_state.specs.declared.outcome.CallKind.{CallKind}
+use Rattle.ka_state.specs.declared.outcome.CallKind.TheVariants as call
+use Rattle.ka_state.specs.declared.outcome.Outcome.TheVariants as outcome
+use Rattle.ka_state.specs.declared.outcome.StopReason.{StopReason}
+use Rattle.ka_state.specs.declared.outcome.StopReason.TheVariants.{AddressChain, IllegalInstruction}
 use Rattle.ka_cpu.specs.declared.limits.TheConstants.{MOST_LINKS}
 use Rattle.ka_cpu.specs.Addresses.{Target, reading, is_indirect, index_of, direct_address, target_here, target_from, target_of}
 use Rattle.ka_cpu.specs.Effects.{After, finished, stopped}
 use Rattle.ka_cpu.specs.Exec.{op_of, ac_field, is_listed, carried_out, at_address, performed}
 use Rattle.ka_cpu.specs.Instructions.{Instruction}
 use Rattle.ka_cpu.specs.Jumps.{call_row}
-use Rattle.ka_cpu.specs.Memory.{word_at}
+use Rattle.ka_state.specs.Memory.{word_at}
 use Rattle.uuo_calls.specs.declared.service.Service.{Service}
 use Rattle.uuo_calls.specs.declared.service.Service.TheVariants.{Unlisted}
 use Rattle.uuo_calls.specs.Performed.{performed_by}

@@ -1,15 +1,15 @@
 -- The words of an image that are operations or calls of a user's program, and that this machine refuses as instructions.
-use Rattle.std.specs.Prelude.{◌≡◌, ℕ, Bool, true, false, not, ◌&&◌, ◌||◌, ◌==◌, nat_le, nat_lt, List, [], codes, if◌then◌else◌, Some}
+use Rattle.std.specs.Prelude.{◌≡◌, ℕ, Bool, true, false, not, ◌&&◌, ◌||◌, ◌==◌, nat_le, nat_lt, List, [], ◌∷◌, ◌++◌, codes, if◌then◌else◌, Some}
 use Rattle.ka_isa.specs.declared.Fields.{Fields}
 use Rattle.ka_isa.specs.declared.Family.{Family}
 use Rattle.ka_isa.specs.declared.Family.TheVariants.{Calli, Ttcall}
 use Rattle.ka_isa.specs.Fields.{fields_of}
 use Rattle.ka_isa.specs.Families.{family_of}
-use Rattle.ka_cpu.specs.declared.registers.Regs.{Regs}
-use Rattle.ka_cpu.specs.declared.outcome.CallKind.TheVariants as call
-use Rattle.ka_cpu.specs.declared.outcome.Outcome.{Outcome}
-use Rattle.ka_cpu.specs.declared.outcome.Outcome.TheVariants as outcome
-use Rattle.ka_cpu.specs.declared.outcome.StopReason.TheVariants as reason
+use Rattle.ka_state.specs.declared.registers.Regs.{Regs}
+use Rattle.ka_state.specs.declared.outcome.CallKind.TheVariants as call
+use Rattle.ka_state.specs.declared.outcome.Outcome.{Outcome}
+use Rattle.ka_state.specs.declared.outcome.Outcome.TheVariants as outcome
+use Rattle.ka_state.specs.declared.outcome.StopReason.TheVariants as reason
 use Rattle.ka_cpu.specs.Addresses.{target_of}
 use Rattle.ka_cpu.specs.Exec.{is_listed, performed, at_address}
 use Rattle.job_sched.specs.declared.job.Job.{Job}
@@ -22,6 +22,7 @@ use Rattle.uuo_calls.specs.CallState.{stopped_at}
 use Rattle.uuo_calls.specs.Laws.{with_new_job}
 use Rattle.uuo_calls.specs.Performed.{World, performed as call_performed}
 use Rattle.uuo_calls.specs.Services.{service_of}
+use Rattle.image_service.specs.Names.{name_of}
 
 -- a call that the monitor has not
 abbrev pub is_unlisted : Service → Bool
@@ -54,12 +55,16 @@ is_not_here w = is_of_users (fields_of w).op && is_left_out (family_of (fields_o
 abbrev pub is_call : ℕ → Bool
 is_call op = nat_le 0o40 op && nat_lt op 0o100
 
--- what is said behind such a word
-abbrev pub mark_of : Bool → List ℕ
-mark_of is_a_call = if is_a_call then codes " ; call not here" else codes " ; operation not here"
+-- what is said after such a word, and the name that the manuals give it
+abbrev pub kind_text : Bool → List ℕ
+kind_text is_a_call = if is_a_call then codes " ; call not here" else codes " ; operation not here"
+
+abbrev pub named_text : List ℕ → List ℕ
+named_text [] = []
+named_text (c ∷ name) = codes ": " ++ (c ∷ name)
 
 abbrev pub mark_text : ℕ → List ℕ
-mark_text w = if is_not_here w then mark_of (is_call (fields_of w).op) else []
+mark_text w = if is_not_here w then kind_text (is_call (fields_of w).op) ++ named_text (name_of (fields_of w)) else []
 
 -- ---- what the machine does at such a word
 

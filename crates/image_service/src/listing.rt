@@ -6,7 +6,7 @@ ghost use Rattle.image_service.specs.Transcripts.{listed, listed_line, listed_te
 
 use crate::endings::Ending;
 use crate::faults::refuse;
-use crate::not_here::mark_text;
+use crate::not_here::push_mark;
 use image_files::{ImageError, Packing, Wanted, read_image};
 use script_io::{
     ByteIn, ByteOut, ServeFailure, TextService, TextSession, push_word, serve_session,
@@ -22,7 +22,7 @@ fn push_word_line(out: &mut Vec<u8>, address: u32, word: Word) -> Result<(), All
     out.extend_from_slice(&octal_digits::<6>(u64::from(address)))?;
     out.push(b' ')?;
     push_word(out, word)?;
-    out.extend_from_slice(mark_text(word))?;
+    push_mark(out, word)?;
     out.push(b'\n')?;
     Ok(())
 }

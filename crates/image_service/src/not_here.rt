@@ -1,11 +1,13 @@
 //! The operations and calls in an image that are not here.
-ghost use Rattle.std.specs.Prelude.{◌≡◌, ◌<◌, ◌^◌};
+ghost use Rattle.std.specs.Prelude.{◌≡◌, ◌<◌, ◌^◌, ◌++◌, OnOk};
 ghost use Rattle.ka_cpu.specs.Exec.{is_listed};
 ghost use Rattle.uuo_calls.specs.Services.{service_of};
-ghost use Rattle.image_service.specs.NotHere.{is_call, is_left_out, is_not_here, is_unlisted, is_unlisted_call, mark_text};
+ghost use Rattle.image_service.specs.NotHere.{is_call, is_left_out, is_not_here, is_unlisted, is_unlisted_call, kind_text, mark_text, named_text};
 
-use ka_cpu::{Accumulator, CallKind};
+use crate::names::name_of;
 use ka_isa::{Family, Fields, classify, decode};
+use ka_state::{Accumulator, CallKind};
+use std::alloc::AllocError;
 use uuo_calls::{Service, service_of};
 use word36::{Address, Word};
 
@@ -61,17 +63,38 @@ fn is_not_here(word: Word) -> bool
     !is_listed(family, fields.ac) || is_unlisted_call(family, fields)
 }
 
-/// What is said behind a word.
-pub fn mark_text(word: Word) -> &'static [u8]
-    ensures { result.now ≡ mark_text word }
+/// Whether an operation is a call of the monitor, or else one of the processor, in the words for that.
+fn kind_text(op: u16) -> &'static [u8]
+    ensures { result.now ≡ kind_text (is_call op) }
 {
-    if !is_not_here(word) {
-        return b"";
-    }
-    let op = decode(word).op;
     if 0o40 <= op && op < 0o100 {
         b" ; call not here"
     } else {
         b" ; operation not here"
     }
+}
+
+/// Adds a colon and a name, if there is one.
+fn push_named(out: &mut Vec<u8>, name: &str) -> Result<(), AllocError>
+    ensures { OnOk result (out.new.items ≡ out.old.items ++ named_text name.now) }
+{
+    if name.is_empty() {
+        return Ok(());
+    }
+    out.extend_from_slice(b": ")?;
+    out.extend_from_slice(name.as_bytes())?;
+    Ok(())
+}
+
+/// Adds what is said after a word: nothing, or that it is not here, and the name that the manuals give it.
+#[tactic(auto, using(std::proofs::Common::append_assoc))]
+pub fn push_mark(out: &mut Vec<u8>, word: Word) -> Result<(), AllocError>
+    ensures { OnOk result (out.new.items ≡ out.old.items ++ mark_text word) }
+{
+    if !is_not_here(word) {
+        return Ok(());
+    }
+    let fields = decode(word);
+    out.extend_from_slice(kind_text(fields.op))?;
+    push_named(out, name_of(fields))
 }

@@ -6,8 +6,8 @@ use Rattle.std.proofs.lemmas.Bool.{cases_eq, le-leb, leb-true}
 use Rattle.std.proofs.lemmas.List.{append-nil, length-append, length-set}
 use Rattle.word36.specs.Words.{right_half}
 use Rattle.word36.specs.declared.sizes.TheConstants.{DATA_WORDS, OUTPUT_RING}
-use Rattle.ka_cpu.specs.Memory.{ac_with, are_legal, core_with, is_legal, word_below}
-use Rattle.ka_cpu.specs.declared.outcome.StopReason.TheVariants.{IllegalAddress}
+use Rattle.ka_state.specs.Memory.{ac_with, are_legal, core_with, is_legal, word_below}
+use Rattle.ka_state.specs.declared.outcome.StopReason.TheVariants.{IllegalAddress}
 use Rattle.core_store.specs.Cores.{Cores, core_of, with_core}
 use Rattle.lock_queue.specs.declared.call.LockReply.{LockReply}
 use Rattle.lock_queue.specs.declared.call.LockReply.TheVariants.{Granted, Queued, Done as DoneReply, Refused}

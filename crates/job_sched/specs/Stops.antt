@@ -1,6 +1,6 @@
 -- The numbers of the reasons why a job is stopped (this project's profile).
 use Rattle.std.specs.Prelude.{ℕ}
-use Rattle.ka_cpu.specs.Outcomes.{code_of as fault_code}
+use Rattle.ka_state.specs.Outcomes.{code_of as fault_code}
 use Rattle.job_sched.specs.declared.job.Stop.{Stop}
 use Rattle.job_sched.specs.declared.job.Stop.TheVariants.{Loaded, Fault, Exit, Monitor, Typed}
 

@@ -6,7 +6,7 @@ ghost use Rattle.job_sched.specs.Jobs.{new_job, resumed_job, broken_job, ticked_
 ghost use Rattle.job_sched.specs.Limits.{at_error_return, limit_of, limited_by};
 ghost use Rattle.job_sched.specs.Stops.{code_of};
 
-use ka_cpu::{Flags, Regs, StopReason};
+use ka_state::{Flags, Regs, StopReason};
 use lock_queue::Refusal;
 use tty_lines::LineNumber;
 use word36::{Address, Word};

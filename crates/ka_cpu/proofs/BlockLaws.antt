@@ -5,12 +5,14 @@ use Rattle.std.proofs.lemmas.Bool.Decides.{nat_tests}
 use Rattle.std.proofs.lemmas.List.{get_or-set_same, get_or-set_other}
 use Rattle.std.proofs.Math.ListN.{length-set}
 use Rattle.word36.specs.Words.{left_half, right_half}
-use Rattle.ka_cpu.specs.Memory.{is_legal}
-use Rattle.ka_cpu.specs.Effects.{a_of, next_pc}
-use Rattle.ka_cpu.specs.Blocks.{IsCopied, all_legal, blt_after, copied, word_count}
-use Rattle.ka_cpu.specs.declared.registers.Regs.{Regs}
+use Rattle.ka_state.specs.Memory.{is_legal}
+use Rattle.ka_cpu.specs.Effects.{a_of}
+use Rattle.ka_state.specs.Registers.{next_pc}
+use Rattle.ka_cpu.specs.Blocks.{IsCopied, all_legal, blt_after, word_count}
+use Rattle.ka_state.specs.Copies.{copied}
+use Rattle.ka_state.specs.declared.registers.Regs.{Regs}
 use Rattle.ka_cpu.specs.Instructions.{Instruction}
-use Rattle.ka_cpu.specs.declared.outcome.Outcome.TheVariants.{Done}
+use Rattle.ka_state.specs.declared.outcome.Outcome.TheVariants.{Done}
 use Rattle.ka_cpu.proofs.BlockLegal.{near}
 use Rattle.ka_cpu.proofs.BlockSteps.{moved_core}
 

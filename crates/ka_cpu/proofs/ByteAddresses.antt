@@ -1,10 +1,10 @@
 use Rattle.std.proofs.Common.{◌≡◌, ℕ, Option, Some, None, Ok, Err, Result, List, Bool, true, false, refl, ◌∙◌, cond, set, slice_get, nat_lt}
 use Rattle.std.proofs.lemmas.List.{set-set, set-get_or}
 use Rattle.std.proofs.lemmas.Option.{get_or_from_slice_get}
-use Rattle.ka_cpu.specs.Memory.{word_at, ac_with, core_with}
+use Rattle.ka_state.specs.Memory.{word_at, ac_with, core_with}
 use Rattle.ka_cpu.specs.Addresses.{Target, target_of, reading, address_in, at_target}
-use Rattle.ka_cpu.specs.declared.outcome.StopReason.{StopReason}
-use Rattle.ka_cpu.specs.declared.outcome.StopReason.TheVariants.{IllegalAddress}
+use Rattle.ka_state.specs.declared.outcome.StopReason.{StopReason}
+use Rattle.ka_state.specs.declared.outcome.StopReason.TheVariants.{IllegalAddress}
 use Rattle.ka_cpu.specs.Bytes.{located_byte}
 use Rattle.ka_cpu.proofs.Legal.{legal_from_read}
 

@@ -18,12 +18,13 @@ use Rattle.ka_cpu.specs.Booleans.{boolean_row}
 use Rattle.ka_cpu.specs.Bytes.{byte_after, byte_done, byte_effect, behind_pointer, with_pointer, loads, increments, located_byte}
 use Rattle.ka_cpu.specs.Conditions.{compare_row, jump_row, skip_row}
 use Rattle.ka_cpu.specs.Effects.{After, Effect, Goes_on, Halts, Overruns, a_of, applied, computed_to}
-use Rattle.ka_cpu.specs.Effects.{finished, goes_on, goes_to, memory_legal, next_pc, outcome_of, stopped}
+use Rattle.ka_cpu.specs.Effects.{finished, goes_on, goes_to, memory_legal, outcome_of, stopped}
+use Rattle.ka_state.specs.Registers.{next_pc}
 use Rattle.ka_cpu.specs.Exec.{ac_field, at_address, carried_out, exec, is_listed, op_of, performed, row_of, word_behind}
 use Rattle.ka_cpu.specs.Halves.{half_row, destination}
 use Rattle.ka_cpu.specs.Instructions.{Instruction}
 use Rattle.ka_cpu.specs.Jumps.{jffo_row, aobj_row, jrst_row, jfcl_row, jsr_row, jsp_row, jsa_row, jra_row, call_row, restored}
-use Rattle.ka_cpu.specs.Memory.{word_at}
+use Rattle.ka_state.specs.Memory.{word_at}
 use Rattle.ka_cpu.specs.Moves.{move_row, transferred, exch_row}
 use Rattle.ka_cpu.specs.Next.{call_in}
 use Rattle.ka_cpu.specs.Shifts.{shift_row, pair_of, pair_effect}
@@ -32,12 +33,12 @@ use Rattle.ka_cpu.specs.Tests.{test_row}
 use Rattle.ka_cpu.specs.declared.limits.TheConstants.{MOST_EXECUTES}
 use Rattle.ka_cpu.specs.declared.moves.Transfer.{Transfer}
 use Rattle.ka_cpu.specs.declared.moves.Transfer.TheVariants.{Plain, Swapped, Negated, Magnitude}
-use Rattle.ka_cpu.specs.declared.outcome.CallKind.{CallKind}
-use Rattle.ka_cpu.specs.declared.outcome.CallKind.TheVariants as call
-use Rattle.ka_cpu.specs.declared.outcome.Outcome.TheVariants.{Done}
-use Rattle.ka_cpu.specs.declared.outcome.StopReason.{StopReason}
-use Rattle.ka_cpu.specs.declared.outcome.StopReason.TheVariants.{IllegalAddress, IllegalInstruction}
-use Rattle.ka_cpu.specs.declared.registers.Regs.{Regs}
+use Rattle.ka_state.specs.declared.outcome.CallKind.{CallKind}
+use Rattle.ka_state.specs.declared.outcome.CallKind.TheVariants as call
+use Rattle.ka_state.specs.declared.outcome.Outcome.TheVariants.{Done}
+use Rattle.ka_state.specs.declared.outcome.StopReason.{StopReason}
+use Rattle.ka_state.specs.declared.outcome.StopReason.TheVariants.{IllegalAddress, IllegalInstruction}
+use Rattle.ka_state.specs.declared.registers.Regs.{Regs}
 use Rattle.ka_cpu.proofs.ExecLaws.{by_test}
 use Rattle.ka_cpu.proofs.Executes.{at_done, at_refused, performed_by}
 

@@ -2,10 +2,10 @@ use Rattle.std.proofs.Common.{◌≡◌, ℕ, ◌+◌, ◌-◌, ◌/◌, ◌%◌
 use Rattle.std.proofs.Common.{Err, Result, List, true, false, refl, arith, ap, sym, nat_eq}
 use Rattle.std.proofs.lemmas.Bool.{eqb-true}
 use Rattle.ka_cpu.specs.declared.limits.TheConstants.{MOST_LINKS}
-use Rattle.ka_cpu.specs.Memory.{word_at}
+use Rattle.ka_state.specs.Memory.{word_at}
 use Rattle.ka_cpu.specs.Addresses.{Target, target_here, target_of, target_from, is_indirect, direct_address, address_in, used_in, pair_in}
-use Rattle.ka_cpu.specs.declared.outcome.StopReason.{StopReason}
-use Rattle.ka_cpu.specs.declared.outcome.StopReason.TheVariants.{IllegalAddress, AddressChain}
+use Rattle.ka_state.specs.declared.outcome.StopReason.{StopReason}
+use Rattle.ka_state.specs.declared.outcome.StopReason.TheVariants.{IllegalAddress, AddressChain}
 
 pub target_direct : (n : ℕ) (ac core : List ℕ) (w : ℕ) (u : Option ℕ) → is_indirect w ≡ false → target_from n ac core w u ≡ Ok (target_here ac w u)
 unfolding target_from

@@ -1,10 +1,10 @@
 use Rattle.std.proofs.Common.{◌≡◌, ℕ, ◌≤◌, ◌⊎◌, suc, zero, Option, Some, None, Ok, Err, Result, List, [], ◌∷◌, length}
 use Rattle.std.proofs.Common.{Bool, true, false, cond, refl, arith, sym, ◌∙◌, inl, inr, ap}
 use Rattle.ka_cpu.specs.declared.limits.TheConstants.{MOST_LINKS}
-use Rattle.ka_cpu.specs.Memory.{word_at}
+use Rattle.ka_state.specs.Memory.{word_at}
 use Rattle.ka_cpu.specs.Addresses.{Target, target_here, target_from, target_of, is_indirect, direct_address, LeadsTo, reading}
-use Rattle.ka_cpu.specs.declared.outcome.StopReason.{StopReason}
-use Rattle.ka_cpu.specs.declared.outcome.StopReason.TheVariants.{AddressChain}
+use Rattle.ka_state.specs.declared.outcome.StopReason.{StopReason}
+use Rattle.ka_state.specs.declared.outcome.StopReason.TheVariants.{AddressChain}
 use Rattle.ka_cpu.proofs.Chain.{target_direct}
 
 chain_found : (n : ℕ) (ac core : List ℕ) (w : ℕ) (u : Option ℕ) (vs : List ℕ) (t : Target) → length vs ≤ n

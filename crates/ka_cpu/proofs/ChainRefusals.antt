@@ -5,9 +5,9 @@ use Rattle.ka_cpu.specs.declared.limits.TheConstants.{MOST_EXECUTES, MOST_LINKS}
 use Rattle.ka_cpu.specs.Addresses.{Target, Path, Links, LeadsOutside, LeadsTooFar, target_of, target_from}
 use Rattle.ka_cpu.specs.Addresses.{target_here, is_indirect, direct_address, reading, at_target}
 use Rattle.ka_cpu.specs.Exec.{Executes, ComesTo, RefusedOnTheWay, ExecutesTooFar, executed_word, is_xct, word_behind}
-use Rattle.ka_cpu.specs.Memory.{word_at}
-use Rattle.ka_cpu.specs.declared.outcome.StopReason.{StopReason}
-use Rattle.ka_cpu.specs.declared.outcome.StopReason.TheVariants.{IllegalAddress, IllegalInstruction, Halt, Pushdown, AddressChain}
+use Rattle.ka_state.specs.Memory.{word_at}
+use Rattle.ka_state.specs.declared.outcome.StopReason.{StopReason}
+use Rattle.ka_state.specs.declared.outcome.StopReason.TheVariants.{IllegalAddress, IllegalInstruction, Halt, Pushdown, AddressChain}
 use Rattle.ka_cpu.proofs.Executes.{behind_plain}
 
 -- what a result says of the links from w, over at most n of them

@@ -20,7 +20,8 @@ use Rattle.ka_word.specs.Quotients.{no_quotient, quotient_of, remainder_of}
 use Rattle.ka_word.specs.Shifts.{ash_of, ash_overflows, lsh_of, lshc_of, rot_of, rotc_of}
 use Rattle.ka_cpu.specs.Bytes.{byte_after, with_pointer, behind_pointer, byte_done, located_byte, byte_effect, increments, loads}
 use Rattle.ka_cpu.specs.Effects.{After, Effect, Ending, Goes_on, Calls, Halts, Overruns, EndsAs, outcome_of, stopped, finished, applied, core_memory, ac_memory}
-use Rattle.ka_cpu.specs.Effects.{ac_put, memory_legal, next_pc, next_ac, a_of, goes_on, goes_to, moved_to, moved_operand, computed_to}
+use Rattle.ka_cpu.specs.Effects.{ac_put, memory_legal, next_ac, a_of, goes_on, goes_to, moved_to, moved_operand, computed_to}
+use Rattle.ka_state.specs.Registers.{next_pc}
 use Rattle.ka_cpu.specs.Exec.{op_of, ac_field, is_listed, row_of, carried_out, at_address, performed, word_performed, exec}
 use Rattle.ka_cpu.specs.Moves.{move_row, transferred, exch_row, negates}
 use Rattle.ka_cpu.specs.declared.moves.Transfer.{Transfer}
@@ -33,16 +34,16 @@ use Rattle.ka_cpu.specs.Tests.{test_row}
 use Rattle.ka_cpu.specs.Shifts.{shift_row, pair_of, pair_effect}
 use Rattle.ka_cpu.specs.Jumps.{jffo_row, aobj_row, jrst_row, jfcl_row, jsr_row, jsp_row, jsa_row, jra_row, call_row, restored}
 use Rattle.ka_cpu.specs.Stacks.{pushj_row, push_row, pop_row, popj_row}
-use Rattle.ka_cpu.specs.Memory.{word_at, ac_with, core_with, is_legal}
+use Rattle.ka_state.specs.Memory.{word_at, ac_with, core_with, is_legal}
 use Rattle.ka_cpu.specs.Instructions.{Instruction}
-use Rattle.ka_cpu.specs.declared.outcome.CallKind.{CallKind}
-use Rattle.ka_cpu.specs.declared.outcome.CallKind.TheVariants as call
-use Rattle.ka_cpu.specs.declared.outcome.Outcome.{Outcome}
-use Rattle.ka_cpu.specs.declared.outcome.Outcome.TheVariants as outcome
-use Rattle.ka_cpu.specs.declared.outcome.StopReason.{StopReason}
-use Rattle.ka_cpu.specs.declared.outcome.StopReason.TheVariants as reason
-use Rattle.ka_cpu.specs.declared.registers.Flags.{Flags}
-use Rattle.ka_cpu.specs.declared.registers.Regs.{Regs}
+use Rattle.ka_state.specs.declared.outcome.CallKind.{CallKind}
+use Rattle.ka_state.specs.declared.outcome.CallKind.TheVariants as call
+use Rattle.ka_state.specs.declared.outcome.Outcome.{Outcome}
+use Rattle.ka_state.specs.declared.outcome.Outcome.TheVariants as outcome
+use Rattle.ka_state.specs.declared.outcome.StopReason.{StopReason}
+use Rattle.ka_state.specs.declared.outcome.StopReason.TheVariants as reason
+use Rattle.ka_state.specs.declared.registers.Flags.{Flags}
+use Rattle.ka_state.specs.declared.registers.Regs.{Regs}
 use Rattle.ka_cpu.proofs.Legal.{legal_by}
 
 pub by_test : {X : Type 0} (P : X → Type 0) (b : Bool) (x y : X) → (b ≡ true → P x) → (b ≡ false → P y) → P (cond b x y)

@@ -3,15 +3,15 @@ use Rattle.std.proofs.Common.{false, refl, arith, ap, subst, sym, ◌∙◌, if�
 use Rattle.ka_isa.specs.Families.{family_of}
 use Rattle.ka_isa.specs.declared.Family.{Family}
 use Rattle.ka_cpu.specs.declared.limits.TheConstants.{MOST_EXECUTES}
-use Rattle.ka_cpu.specs.Memory.{word_at}
+use Rattle.ka_state.specs.Memory.{word_at}
 use Rattle.ka_cpu.specs.Addresses.{Target, target_of, reading, at_target, address_in, used_in}
 use Rattle.ka_cpu.specs.Effects.{stopped}
 use Rattle.ka_isa.specs.declared.Family.TheVariants.{Xct}
 use Rattle.ka_cpu.specs.Turns.{refusal_of}
 use Rattle.ka_cpu.specs.Exec.{word_behind, word_performed, performed, is_listed, is_execute, is_xct, op_of, ac_field, at_address, carried_out}
-use Rattle.ka_cpu.specs.declared.registers.Regs.{Regs}
-use Rattle.ka_cpu.specs.declared.outcome.StopReason.{StopReason}
-use Rattle.ka_cpu.specs.declared.outcome.StopReason.TheVariants.{IllegalAddress, IllegalInstruction, AddressChain}
+use Rattle.ka_state.specs.declared.registers.Regs.{Regs}
+use Rattle.ka_state.specs.declared.outcome.StopReason.{StopReason}
+use Rattle.ka_state.specs.declared.outcome.StopReason.TheVariants.{IllegalAddress, IllegalInstruction, AddressChain}
 
 pub behind_plain : (k : ℕ) (ac core : List ℕ) (w : ℕ) → is_xct w ≡ false → word_behind k ac core w ≡ Ok w
 unfolding word_behind

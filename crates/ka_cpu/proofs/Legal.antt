@@ -5,7 +5,7 @@ use Rattle.ka_isa.specs.declared.Change.{Change}
 use Rattle.ka_isa.specs.declared.Change.TheVariants.{Keep, Up, Down}
 use Rattle.ka_cpu.specs.Effects.{memory_legal}
 use Rattle.ka_cpu.specs.Conditions.{if_changed}
-use Rattle.ka_cpu.specs.Memory.{is_legal}
+use Rattle.ka_state.specs.Memory.{is_legal}
 
 pub legal_by : (b : Bool) (core : List ℕ) (e w : ℕ) → slice_get core e ≡ Some w → b || nat_lt e (length core) ≡ true
 legal_by true core e w h = refl

@@ -1,5 +1,4 @@
 pub mod Legal
-pub mod LegalLemmas
 pub mod ExecLaws
 pub mod Executes
 pub mod Calls

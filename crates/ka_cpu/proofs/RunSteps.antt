@@ -2,9 +2,9 @@
 use Rattle.std.proofs.Common.{◌≡◌, ℕ, suc, ◌+◌, ◌-◌, ◌<◌, List, false, refl, ◌∙◌, sym, arith, ap}
 use Rattle.ka_cpu.specs.Exec.{exec}
 use Rattle.ka_cpu.specs.Runs.{Ran, is_done, ran, ran_on}
-use Rattle.ka_cpu.specs.declared.registers.Regs.{Regs}
-use Rattle.ka_cpu.specs.declared.outcome.Outcome.{Outcome}
-use Rattle.ka_cpu.specs.declared.outcome.Outcome.TheVariants.{Done}
+use Rattle.ka_state.specs.declared.registers.Regs.{Regs}
+use Rattle.ka_state.specs.declared.outcome.Outcome.{Outcome}
+use Rattle.ka_state.specs.declared.outcome.Outcome.TheVariants.{Done}
 
 on_steps : (r : Ran) (i j : ℕ) → i ≡ j → ran_on i r ≡ ran_on j r
 on_steps r i j e = ap (λ (n : ℕ). ran_on n r) e

@@ -8,10 +8,11 @@ use Rattle.std.proofs.lemmas.Option.{slice_get-get_or}
 use Rattle.std.proofs.Math.ListN.{length-set}
 use Rattle.word36.specs.Words.{right_half}
 use Rattle.ka_word.specs.Pushdown.{counted_down, counted_up}
-use Rattle.ka_cpu.specs.Memory.{ac_with, core_with, is_legal, word_at}
-use Rattle.ka_cpu.specs.Effects.{After, a_of, finished, next_pc, outcome_of}
+use Rattle.ka_state.specs.Memory.{ac_with, core_with, is_legal, word_at}
+use Rattle.ka_cpu.specs.Effects.{After, a_of, finished, outcome_of}
+use Rattle.ka_state.specs.Registers.{next_pc}
 use Rattle.ka_cpu.specs.Stacks.{pop_ending, pop_row, popped, push_ending, push_row, pushed}
-use Rattle.ka_cpu.specs.declared.registers.Regs.{Regs}
+use Rattle.ka_state.specs.declared.registers.Regs.{Regs}
 use Rattle.ka_cpu.specs.Instructions.{Instruction}
 
 length-stored : (ac : List ℕ) (p w : ℕ) → length (ac_with ac p w) ≡ length ac

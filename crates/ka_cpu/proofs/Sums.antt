@@ -2,7 +2,7 @@ use Rattle.std.proofs.Common.{◌≡◌, ℕ, ◌+◌, ◌<◌, ◌^◌, Bool, t
 use Rattle.std.proofs.lemmas.Bool.Decides.{nat_tests}
 use Rattle.word36.specs.Words.{sum_of, carry_0, carry_1}
 use Rattle.ka_cpu.specs.Effects.{carried_flags, sum_flags}
-use Rattle.ka_cpu.specs.declared.registers.Flags.{Flags}
+use Rattle.ka_state.specs.declared.registers.Flags.{Flags}
 
 -- a sum below 2 ^ 35 fits a word, and has no carries out of bits 0 and 1
 pub small_sum : (a b c : ℕ) → a + b + c < 2 ^ 35 → a + b + c ≡ sum_of a b c

@@ -4,9 +4,9 @@ use Rattle.std.specs.Prelude.{◌≡◌, ◌<◌, true, false, [], ◌∷◌, �
 use Rattle.std.specs.Prelude.{if◌then◌else◌, Option, Some, None, List, slice_index, Result, Ok, Err}
 use Rattle.word36.specs.Words.{right_half}
 use Rattle.ka_cpu.specs.declared.limits.TheConstants.{MOST_LINKS}
-use Rattle.ka_cpu.specs.Memory.{word_at}
-use Rattle.ka_cpu.specs.declared.outcome.StopReason.{StopReason}
-use Rattle.ka_cpu.specs.declared.outcome.StopReason.TheVariants.{IllegalAddress, AddressChain}
+use Rattle.ka_state.specs.Memory.{word_at}
+use Rattle.ka_state.specs.declared.outcome.StopReason.{StopReason}
+use Rattle.ka_state.specs.declared.outcome.StopReason.TheVariants.{IllegalAddress, AddressChain}
 
 -- what follows a read: an illegal address is refused
 abbrev pub reading : {A : Type 0} → Option ℕ → (ℕ → Result A StopReason) → Result A StopReason

@@ -5,8 +5,8 @@ use Rattle.ka_word.specs.Products.{both_least, high_word, low_word, overflows}
 use Rattle.ka_word.specs.Quotients.{no_quotient, quotient_of, remainder_of}
 use Rattle.ka_cpu.specs.Addresses.{reading}
 use Rattle.ka_cpu.specs.Effects.{Effect, a_of, goes_on, computed_operand, computed_to, sum_flags}
-use Rattle.ka_cpu.specs.declared.registers.Regs.{Regs}
-use Rattle.ka_cpu.specs.declared.outcome.StopReason.{StopReason}
+use Rattle.ka_state.specs.declared.registers.Regs.{Regs}
+use Rattle.ka_state.specs.declared.outcome.StopReason.{StopReason}
 use Rattle.ka_cpu.specs.Instructions.{Instruction}
 
 -- ADD: A + operand. SUB: A + not operand + 1

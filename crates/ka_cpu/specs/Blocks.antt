@@ -2,11 +2,12 @@
 use Rattle.std.specs.Prelude.{◌≡◌, ◌<◌, ◌≤◌, ◌⊎◌, ℕ, zero, suc, ◌+◌, ◌-◌, ◌%◌, ◌^◌, Bool, true, ◌&&◌}
 use Rattle.std.specs.Prelude.{if◌then◌else◌, Option, Some, None, List, slice_index, slice_set}
 use Rattle.word36.specs.Words.{left_half, right_half}
-use Rattle.ka_cpu.specs.Memory.{word_at, is_legal, ac_with, core_with}
-use Rattle.ka_cpu.specs.Effects.{After, a_of, next_pc, stopped}
-use Rattle.ka_cpu.specs.declared.registers.Regs.{Regs}
-use Rattle.ka_cpu.specs.declared.outcome.StopReason.TheVariants.{IllegalAddress}
-use Rattle.ka_cpu.specs.declared.outcome.Outcome.TheVariants.{Done}
+use Rattle.ka_state.specs.Memory.{word_at, is_legal, ac_with, core_with}
+use Rattle.ka_cpu.specs.Effects.{After, a_of, stopped}
+use Rattle.ka_state.specs.Registers.{next_pc}
+use Rattle.ka_state.specs.declared.registers.Regs.{Regs}
+use Rattle.ka_state.specs.declared.outcome.StopReason.TheVariants.{IllegalAddress}
+use Rattle.ka_state.specs.declared.outcome.Outcome.TheVariants.{Done}
 use Rattle.ka_cpu.specs.Instructions.{Instruction}
 
 -- how many words: at least one, up to the first address that is at least E (E is at most 777777 octal)
@@ -31,11 +32,6 @@ stored t d (Some w) = record { ac = ac_with t.ac d w; core = core_with t.core d 
 unfoldable pub moved_words : ℕ → Store → ℕ → ℕ → Store
 moved_words zero t s d = t
 moved_words (suc k) t s d = moved_words k (stored t d (word_at t.ac t.core (s % 2 ^ 18))) (s + 1) (d + 1)
-
--- k words are moved in core alone, where no register is touched and no address wraps
-unfoldable pub copied : ℕ → List ℕ → ℕ → ℕ → List ℕ
-copied zero words s d = words
-copied (suc k) words s d = copied k (slice_set words d (slice_index words s)) (s + 1) (d + 1)
 
 -- k words from d on are those that were from s on, and the others stay
 abbrev pub IsCopied : List ℕ → List ℕ → ℕ → ℕ → ℕ → Type 0

@@ -3,8 +3,8 @@ use Rattle.std.specs.Prelude.{ℕ, ◌/◌, ◌%◌, nat_eq, Bool, ◌||◌, if�
 use Rattle.ka_word.specs.Booleans.{boolean_of}
 use Rattle.ka_cpu.specs.Addresses.{reading}
 use Rattle.ka_cpu.specs.Effects.{Effect, a_of, computed_operand, computed_to}
-use Rattle.ka_cpu.specs.declared.registers.Regs.{Regs}
-use Rattle.ka_cpu.specs.declared.outcome.StopReason.{StopReason}
+use Rattle.ka_state.specs.declared.registers.Regs.{Regs}
+use Rattle.ka_state.specs.declared.outcome.StopReason.{StopReason}
 use Rattle.ka_cpu.specs.Instructions.{Instruction}
 
 -- SETZ, SETA, SETCA and SETO read no memory (this project's profile)

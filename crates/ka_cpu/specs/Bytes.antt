@@ -2,12 +2,13 @@
 use Rattle.std.specs.Prelude.{ℕ, nat_eq, Bool, ◌||◌, if◌then◌else◌, Option, Some, None, List, Result, Ok, Err}
 use Rattle.ka_word.specs.Bytes.{byte_of, deposited, incremented}
 use Rattle.ka_cpu.specs.Addresses.{reading, target_of, at_target}
-use Rattle.ka_cpu.specs.Memory.{word_at, ac_with, core_with}
-use Rattle.ka_cpu.specs.Effects.{After, Effect, a_of, next_pc, goes_on, applied, stopped}
-use Rattle.ka_cpu.specs.declared.registers.Regs.{Regs}
-use Rattle.ka_cpu.specs.declared.outcome.StopReason.{StopReason}
-use Rattle.ka_cpu.specs.declared.outcome.StopReason.TheVariants.{IllegalAddress}
-use Rattle.ka_cpu.specs.declared.outcome.Outcome.TheVariants.{Done}
+use Rattle.ka_state.specs.Memory.{word_at, ac_with, core_with}
+use Rattle.ka_cpu.specs.Effects.{After, Effect, a_of, goes_on, applied, stopped}
+use Rattle.ka_state.specs.Registers.{next_pc}
+use Rattle.ka_state.specs.declared.registers.Regs.{Regs}
+use Rattle.ka_state.specs.declared.outcome.StopReason.{StopReason}
+use Rattle.ka_state.specs.declared.outcome.StopReason.TheVariants.{IllegalAddress}
+use Rattle.ka_state.specs.declared.outcome.Outcome.TheVariants.{Done}
 use Rattle.ka_cpu.specs.Instructions.{Instruction}
 
 -- 133 IBP, 134 ILDB, 135 LDB, 136 IDPB, 137 DPB (octal)

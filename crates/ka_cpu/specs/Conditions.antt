@@ -3,11 +3,11 @@ use Rattle.std.specs.Prelude.{ℕ, pos, ◌-◌, ◌%◌, ◌^◌, nat_eq, nat_l
 use Rattle.word36.specs.Words.{signed_value, sum_of}
 use Rattle.ka_word.specs.Conditions.{holds}
 use Rattle.ka_cpu.specs.Addresses.{reading}
-use Rattle.ka_cpu.specs.Memory.{word_at}
+use Rattle.ka_state.specs.Memory.{word_at}
 use Rattle.ka_cpu.specs.Effects.{Effect, a_of, skips_if, jumps_if, sum_flags}
-use Rattle.ka_cpu.specs.declared.registers.Regs.{Regs}
-use Rattle.ka_cpu.specs.declared.registers.Flags.{Flags}
-use Rattle.ka_cpu.specs.declared.outcome.StopReason.{StopReason}
+use Rattle.ka_state.specs.declared.registers.Regs.{Regs}
+use Rattle.ka_state.specs.declared.registers.Flags.{Flags}
+use Rattle.ka_state.specs.declared.outcome.StopReason.{StopReason}
 use Rattle.ka_cpu.specs.Instructions.{Instruction}
 use Rattle.ka_isa.specs.declared.Change.{Change}
 use Rattle.ka_isa.specs.declared.Change.TheVariants.{Keep, Up, Down}

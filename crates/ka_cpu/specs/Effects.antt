@@ -1,15 +1,16 @@
 -- What an instruction does: its operand, where its result goes, its flags, and the next PC.
 use Rattle.std.specs.Prelude.{◌≡◌, ◌<◌, ℕ, ◌+◌, ◌%◌, ◌^◌, nat_eq, nat_lt, Bool, true, ◌||◌, if◌then◌else◌, Option}
 use Rattle.std.specs.Prelude.{Some, None, List, slice_index, slice_set, Result, Ok, Err}
-use Rattle.ka_cpu.specs.Memory.{word_at, is_legal, ac_with, core_with}
-use Rattle.ka_cpu.specs.declared.registers.Regs.{Regs}
-use Rattle.ka_cpu.specs.declared.registers.Flags.{Flags}
-use Rattle.ka_cpu.specs.declared.outcome.CallKind.{CallKind}
-use Rattle.ka_cpu.specs.declared.outcome.StopReason.{StopReason}
-use Rattle.ka_cpu.specs.declared.outcome.StopReason.TheVariants.{IllegalAddress}
-use Rattle.ka_cpu.specs.declared.outcome.Outcome.{Outcome}
-use Rattle.ka_cpu.specs.declared.outcome.Outcome.TheVariants as outcome
-use Rattle.ka_cpu.specs.declared.outcome.StopReason.TheVariants as reason
+use Rattle.ka_state.specs.Registers.{next_pc}
+use Rattle.ka_state.specs.Memory.{word_at, is_legal, ac_with, core_with}
+use Rattle.ka_state.specs.declared.registers.Regs.{Regs}
+use Rattle.ka_state.specs.declared.registers.Flags.{Flags}
+use Rattle.ka_state.specs.declared.outcome.CallKind.{CallKind}
+use Rattle.ka_state.specs.declared.outcome.StopReason.{StopReason}
+use Rattle.ka_state.specs.declared.outcome.StopReason.TheVariants.{IllegalAddress}
+use Rattle.ka_state.specs.declared.outcome.Outcome.{Outcome}
+use Rattle.ka_state.specs.declared.outcome.Outcome.TheVariants as outcome
+use Rattle.ka_state.specs.declared.outcome.StopReason.TheVariants as reason
 use Rattle.ka_cpu.specs.Instructions.{Instruction}
 use Rattle.word36.specs.Words.{carry_0, carry_1}
 use Rattle.ka_word.specs.Sums.{carries_differ}
@@ -43,10 +44,6 @@ a_of g n = slice_index g.ac n.ac
 -- the number of AC+1, which is 0 after 17 octal
 abbrev pub next_ac : Instruction → ℕ
 next_ac n = (n.ac + 1) % 16
-
--- PC+1
-abbrev pub next_pc : Regs → ℕ
-next_pc g = (g.pc + 1) % 2 ^ 18
 
 -- nothing is stored, the flags stay, and the PC goes on by so many words
 abbrev pub goes_on : Regs → ℕ → Effect

@@ -8,7 +8,7 @@ use Rattle.ka_isa.specs.declared.Family.TheVariants.{Shift, Jffo, Exch, Blt, Aob
 use Rattle.ka_isa.specs.declared.Family.TheVariants.{Push, Pop, Popj, Jsr, Jsp, Jsa, Jra, Add, Sub}
 use Rattle.ka_isa.specs.declared.Family.TheVariants.{Compare, JumpOn, SkipOn, Boolean, Half, Test, Calli}
 use Rattle.ka_isa.specs.declared.Family.TheVariants.{Ttcall, Other}
-use Rattle.ka_cpu.specs.Memory.{word_at}
+use Rattle.ka_state.specs.Memory.{word_at}
 use Rattle.ka_cpu.specs.Addresses.{Target, Path, reading, target_of, at_target}
 use Rattle.ka_cpu.specs.Effects.{After, Effect, stopped, finished}
 use Rattle.ka_cpu.specs.Moves.{move_row, exch_row}
@@ -24,10 +24,10 @@ use Rattle.ka_cpu.specs.Jumps.{jffo_row, aobj_row, jrst_row, jfcl_row, jsr_row, 
 use Rattle.ka_cpu.specs.Stacks.{pushj_row, push_row, pop_row, popj_row}
 use Rattle.ka_cpu.specs.Blocks.{blt_after}
 use Rattle.ka_cpu.specs.Bytes.{byte_after}
-use Rattle.ka_cpu.specs.declared.registers.Regs.{Regs}
-use Rattle.ka_cpu.specs.declared.outcome.StopReason.{StopReason}
-use Rattle.ka_cpu.specs.declared.outcome.StopReason.TheVariants.{IllegalInstruction, AddressChain}
-use Rattle.ka_cpu.specs.declared.outcome.CallKind.TheVariants as call
+use Rattle.ka_state.specs.declared.registers.Regs.{Regs}
+use Rattle.ka_state.specs.declared.outcome.StopReason.{StopReason}
+use Rattle.ka_state.specs.declared.outcome.StopReason.TheVariants.{IllegalInstruction, AddressChain}
+use Rattle.ka_state.specs.declared.outcome.CallKind.TheVariants as call
 use Rattle.ka_cpu.specs.Instructions.{Instruction}
 
 -- the operation, bits 0-8, and the AC field, bits 9-12

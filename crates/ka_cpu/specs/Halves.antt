@@ -2,10 +2,10 @@
 use Rattle.std.specs.Prelude.{ℕ, ◌/◌, ◌%◌, nat_lt, if◌then◌else◌, Option, Some, List, Result, Ok}
 use Rattle.ka_word.specs.Halves.{halfword_of}
 use Rattle.ka_cpu.specs.Addresses.{reading}
-use Rattle.ka_cpu.specs.Memory.{word_at}
+use Rattle.ka_state.specs.Memory.{word_at}
 use Rattle.ka_cpu.specs.Effects.{Effect, a_of, moved_operand, moved_to}
-use Rattle.ka_cpu.specs.declared.registers.Regs.{Regs}
-use Rattle.ka_cpu.specs.declared.outcome.StopReason.{StopReason}
+use Rattle.ka_state.specs.declared.registers.Regs.{Regs}
+use Rattle.ka_state.specs.declared.outcome.StopReason.{StopReason}
 use Rattle.ka_cpu.specs.Instructions.{Instruction}
 
 -- the destination is AC in the basic mode and in I, and the word at E in M and S

@@ -5,28 +5,14 @@ use Rattle.std.specs.Int.Count.{count_leading_zeros}
 use Rattle.word36.specs.Words.{is_negative, left_half, joined}
 use Rattle.ka_word.specs.Pushdown.{counted_up}
 use Rattle.ka_cpu.specs.Addresses.{reading}
-use Rattle.ka_cpu.specs.Memory.{word_at}
-use Rattle.ka_cpu.specs.Effects.{Effect, Halts, Calls, a_of, goes_on, goes_to, jumps_if, next_pc}
-use Rattle.ka_cpu.specs.declared.registers.Regs.{Regs}
-use Rattle.ka_cpu.specs.declared.registers.Flags.{Flags}
-use Rattle.ka_cpu.specs.declared.outcome.StopReason.{StopReason}
-use Rattle.ka_cpu.specs.declared.outcome.CallKind.{CallKind}
+use Rattle.ka_state.specs.Memory.{word_at}
+use Rattle.ka_cpu.specs.Effects.{Effect, Halts, Calls, a_of, goes_on, goes_to, jumps_if}
+use Rattle.ka_state.specs.Registers.{flags_of, next_pc, pc_word}
+use Rattle.ka_state.specs.declared.registers.Regs.{Regs}
+use Rattle.ka_state.specs.declared.registers.Flags.{Flags}
+use Rattle.ka_state.specs.declared.outcome.StopReason.{StopReason}
+use Rattle.ka_state.specs.declared.outcome.CallKind.{CallKind}
 use Rattle.ka_cpu.specs.Instructions.{Instruction}
-
--- the PC word `flags,,PC`: bit 0 Overflow, 1 Carry 0, 2 Carry 1, 5 User, which is always set, 12 No Divide
-unfoldable pub pc_word : Flags → ℕ → ℕ
-pc_word f pc =
-    (if f.overflow then 2 ^ 35 else 0) + (if f.carry0 then 2 ^ 34 else 0) + (if f.carry1 then 2 ^ 33 else 0)
-    + 2 ^ 30 + (if f.no_divide then 2 ^ 23 else 0) + pc
-
--- the flags in the left half of a PC word, whose other bits have no effect
-unfoldable pub flags_of : ℕ → Flags
-flags_of w = record {
-  overflow = nat_eq (w / 2 ^ 35 % 2) 1;
-  carry0 = nat_eq (w / 2 ^ 34 % 2) 1;
-  carry1 = nat_eq (w / 2 ^ 33 % 2) 1;
-  no_divide = nat_eq (w / 2 ^ 23 % 2) 1;
-}
 
 -- JFFO: A not 0: AC+1 is the number of leading zeros, go to E; A 0: AC+1 is 0
 unfoldable pub jffo_row : Regs → Instruction → Effect

@@ -1,10 +1,10 @@
 -- The call of the monitor that the next instruction makes.
 use Rattle.std.specs.Prelude.{ℕ, Option, Some, None, List}
 use Rattle.ka_cpu.specs.Exec.{exec}
-use Rattle.ka_cpu.specs.declared.outcome.CallKind.{CallKind}
-use Rattle.ka_cpu.specs.declared.outcome.Outcome.{Outcome}
-use Rattle.ka_cpu.specs.declared.outcome.Outcome.TheVariants.{Call}
-use Rattle.ka_cpu.specs.declared.registers.Regs.{Regs}
+use Rattle.ka_state.specs.declared.outcome.CallKind.{CallKind}
+use Rattle.ka_state.specs.declared.outcome.Outcome.{Outcome}
+use Rattle.ka_state.specs.declared.outcome.Outcome.TheVariants.{Call}
+use Rattle.ka_state.specs.declared.registers.Regs.{Regs}
 
 -- the call that an outcome is: its kind, its AC field and its E
 abbrev pub call_in : Outcome → Option (CallKind × ℕ × ℕ)

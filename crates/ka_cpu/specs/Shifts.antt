@@ -2,7 +2,7 @@
 use Rattle.std.specs.Prelude.{ℕ, ◌+◌, ◌*◌, ◌/◌, ◌%◌, ◌^◌, nat_eq, ◌||◌, if◌then◌else◌, Some, slice_index}
 use Rattle.ka_word.specs.Shifts.{ash_of, ash_overflows, lsh_of, lshc_of, rot_of, rotc_of}
 use Rattle.ka_cpu.specs.Effects.{Effect, a_of, next_ac, goes_on}
-use Rattle.ka_cpu.specs.declared.registers.Regs.{Regs}
+use Rattle.ka_state.specs.declared.registers.Regs.{Regs}
 use Rattle.ka_cpu.specs.Instructions.{Instruction}
 
 -- AC and AC+1 as 72 bits

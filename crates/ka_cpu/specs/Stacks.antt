@@ -3,11 +3,11 @@ use Rattle.std.specs.Prelude.{ℕ, if◌then◌else◌, Some, List, Result, Ok}
 use Rattle.word36.specs.Words.{right_half}
 use Rattle.ka_word.specs.Pushdown.{counted_down, counted_up, runs_over, runs_under}
 use Rattle.ka_cpu.specs.Addresses.{reading}
-use Rattle.ka_cpu.specs.Memory.{word_at}
-use Rattle.ka_cpu.specs.Effects.{After, Effect, Ending, Goes_on, Overruns, a_of, finished, goes_on, goes_to, next_pc}
-use Rattle.ka_cpu.specs.Jumps.{pc_word}
-use Rattle.ka_cpu.specs.declared.registers.Regs.{Regs}
-use Rattle.ka_cpu.specs.declared.outcome.StopReason.{StopReason}
+use Rattle.ka_state.specs.Memory.{word_at}
+use Rattle.ka_cpu.specs.Effects.{After, Effect, Ending, Goes_on, Overruns, a_of, finished, goes_on, goes_to}
+use Rattle.ka_state.specs.Registers.{next_pc, pc_word}
+use Rattle.ka_state.specs.declared.registers.Regs.{Regs}
+use Rattle.ka_state.specs.declared.outcome.StopReason.{StopReason}
 use Rattle.ka_cpu.specs.Instructions.{Instruction}
 
 -- a carry out of bit 0 of A + 1000001, or a borrow in A - 1000001, is stop 4 after the instruction (this project's profile)

@@ -3,10 +3,10 @@ use Rattle.std.specs.Prelude.{ℕ, ◌/◌, ◌%◌, nat_eq, bit_and, bit_or, bi
 use Rattle.word36.specs.Words.{complement}
 use Rattle.ka_word.specs.Tests.{mask_of, skips_on}
 use Rattle.ka_cpu.specs.Addresses.{reading}
-use Rattle.ka_cpu.specs.Memory.{word_at}
+use Rattle.ka_state.specs.Memory.{word_at}
 use Rattle.ka_cpu.specs.Effects.{Effect, a_of, skips_if}
-use Rattle.ka_cpu.specs.declared.registers.Regs.{Regs}
-use Rattle.ka_cpu.specs.declared.outcome.StopReason.{StopReason}
+use Rattle.ka_state.specs.declared.registers.Regs.{Regs}
+use Rattle.ka_state.specs.declared.outcome.StopReason.{StopReason}
 use Rattle.ka_cpu.specs.Instructions.{Instruction}
 
 -- the mask is `0,,E` (R), `E,,0` (L), M (D), M with halves swapped (S): 10 octal is for D and S, 1 for L and S

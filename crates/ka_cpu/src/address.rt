@@ -3,7 +3,8 @@
 ghost use Rattle.std.specs.Prelude.{◌≡◌, ◌^◌, nat_eq, ◌/◌, ◌%◌};
 ghost use Rattle.ka_cpu.specs.Addresses.{address_in, pair_in, direct_address, is_indirect, target_of, used_after, used_in};
 
-use crate::{MOST_LINKS, ReadMemory, Regs, StopReason, fetch};
+use crate::MOST_LINKS;
+use ka_state::{ReadMemory, Regs, StopReason, fetch};
 use word36::{Address, Word};
 
 /// Y, plus the right half of the index register where there is one.

@@ -1,14 +1,14 @@
 //! ADD, SUB, IMUL, MUL and IDIV.
 
 ghost use Rattle.std.specs.Prelude.{◌≡◌, ◌%◌, if◌then◌else◌, IfSome};
-ghost use Rattle.ka_cpu.specs.declared.registers.Flags.{Flags as SpecFlags};
+ghost use Rattle.ka_state.specs.declared.registers.Flags.{Flags as SpecFlags};
 ghost use Rattle.word36.specs.Words.{sum_of};
 ghost use Rattle.ka_cpu.specs.Effects.{finished};
 ghost use Rattle.ka_cpu.specs.Arithmetic.{add_row, imul_row, to_next, mul_row, idiv_row};
 ghost use Rattle.ka_cpu.specs.Effects.{ac_memory, ac_put, computed_to_ac, core_memory, next_ac, sum_flags, to_memory};
 
 use crate::instruction::{ILLEGAL, Instruction, operand_to_compute, put_computed, set_carries};
-use crate::{JobMemory, Outcome, Regs};
+use ka_state::{JobMemory, Outcome, Regs};
 use ka_word::{divide, has_no_quotient, split_product};
 use word36::Word;
 

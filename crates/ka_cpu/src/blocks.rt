@@ -1,12 +1,11 @@
 //! BLT.
 
 ghost use Rattle.std.specs.Prelude.{◌≡◌, ◌+◌, ◌<◌, ◌≤◌, ◌^◌, IsTrue, length};
-ghost use Rattle.ka_cpu.specs.Memory.{word_at};
+ghost use Rattle.ka_state.specs.Memory.{word_at};
 ghost use Rattle.ka_cpu.specs.Blocks.{all_legal, blt_after, moved_words, stored};
 
 use crate::instruction::{ILLEGAL, Instruction, is_legal_address};
-use crate::memory::store;
-use crate::{JobMemory, Outcome, Regs, fetch};
+use ka_state::{JobMemory, Outcome, Regs, fetch, store};
 use word36::ADDRESSES;
 
 /// Whether every address of a transfer is legal. The last addresses decide; where those that are read wrap,

@@ -1,14 +1,13 @@
 //! IBP, ILDB, LDB, IDPB and DPB.
 
 ghost use Rattle.std.specs.Prelude.{◌≡◌, true, false, nat_eq, IfOk, ◌<◌};
-ghost use Rattle.ka_cpu.specs.Memory.{is_legal};
+ghost use Rattle.ka_state.specs.Memory.{is_legal};
 ghost use Rattle.ka_cpu.specs.Effects.{applied};
 ghost use Rattle.ka_cpu.specs.Bytes.{byte_after, byte_effect, located_byte, increments, loads};
 
 use crate::address::find_address;
 use crate::instruction::{ILLEGAL, Instruction};
-use crate::memory::store;
-use crate::{JobMemory, Outcome, Regs, StopReason, fetch};
+use ka_state::{JobMemory, Outcome, Regs, StopReason, fetch, store};
 use ka_word::{deposit_byte, increment, load_byte};
 use word36::{Address, Word};
 

@@ -2,13 +2,12 @@
 
 ghost use Rattle.std.specs.Prelude.{◌≡◌, ℕ, ◌<◌, ◌^◌, ◌%◌, Ok, Some, IfSome, true, nat_lt, if◌then◌else◌};
 ghost use Rattle.ka_cpu.specs.Effects.{finished, ac_memory, core_memory, memory_legal};
-ghost use Rattle.ka_cpu.specs.Memory.{word_at};
+ghost use Rattle.ka_state.specs.Memory.{word_at};
 ghost use Rattle.ka_cpu.specs.Conditions.{compare_row, jump_row, skip_row, changed_word, changed_flags, if_changed};
 
 use crate::instruction::{ILLEGAL, Instruction, set_carries};
-use crate::memory::store;
-use crate::{JobMemory, Outcome, Regs, fetch};
 use ka_isa::Change;
+use ka_state::{JobMemory, Outcome, Regs, fetch, store};
 use ka_word::{compare, compare_zero};
 use word36::{Address, Word};
 

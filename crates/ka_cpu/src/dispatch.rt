@@ -7,7 +7,7 @@ ghost use Rattle.ka_isa.specs.declared.Family.TheVariants.{Xct};
 ghost use Rattle.ka_cpu.specs.Effects.{stopped};
 ghost use Rattle.ka_cpu.specs.Exec.{carried_out, is_listed};
 ghost use Rattle.ka_cpu.specs.Turns.{refusal_of};
-ghost use Rattle.ka_cpu.specs.declared.outcome.StopReason.TheVariants.{IllegalInstruction};
+ghost use Rattle.ka_state.specs.declared.outcome.StopReason.TheVariants.{IllegalInstruction};
 
 use crate::arithmetic::{do_add, do_idiv, do_imul, do_mul};
 use crate::blocks::do_blt;
@@ -20,8 +20,8 @@ use crate::logic::{do_boolean, do_test};
 use crate::moves::{Transfer, do_exch, do_move};
 use crate::shifts::do_shift;
 use crate::stacks::{do_pop, do_popj, do_push, do_pushj};
-use crate::{CallKind, JobMemory, Outcome, Regs, StopReason};
 use ka_isa::{Change, Family, classify};
+use ka_state::{CallKind, JobMemory, Outcome, Regs, StopReason};
 use word36::Word;
 
 /// The caller is `step`.

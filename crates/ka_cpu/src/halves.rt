@@ -5,7 +5,7 @@ ghost use Rattle.ka_cpu.specs.Effects.{finished, memory_legal, to_memory};
 ghost use Rattle.ka_cpu.specs.Halves.{half_row, destination};
 
 use crate::instruction::{ILLEGAL, Instruction, operand_to_move, put_moved};
-use crate::{JobMemory, Outcome, Regs, fetch};
+use ka_state::{JobMemory, Outcome, Regs, fetch};
 use ka_word::move_half;
 use word36::Word;
 

@@ -1,12 +1,13 @@
 //! Operands and results of an instruction.
 
 ghost use Rattle.std.specs.Prelude.{◌≡◌, true, false, ℕ, ◌<◌, ◌^◌, ◌%◌, IfSome};
-ghost use Rattle.ka_cpu.specs.Memory.{is_legal};
+ghost use Rattle.ka_state.specs.Memory.{is_legal};
 ghost use Rattle.ka_cpu.specs.Effects.{moved_operand, computed_operand, to_memory, moved_to_ac, computed_to_ac};
 ghost use Rattle.ka_cpu.specs.Effects.{memory_legal, ac_memory, core_memory, ac_put, carried_flags};
 
-use crate::memory::{is_in_core, store, try_store};
-use crate::{JobMemory, Outcome, ReadMemory, Regs, StopReason, fetch};
+use ka_state::{
+    JobMemory, Outcome, ReadMemory, Regs, StopReason, fetch, is_in_core, store, try_store,
+};
 use std::marker::Model;
 use word36::{Address, Word};
 

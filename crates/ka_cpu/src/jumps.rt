@@ -4,16 +4,16 @@ ghost use Rattle.std.specs.Prelude.{◌≡◌, ◌+◌, ◌%◌, ◌^◌, if◌t
 ghost use Rattle.ka_isa.specs.declared.Family.TheVariants.{Jrst};
 ghost use Rattle.ka_cpu.specs.Effects.{finished, stopped};
 ghost use Rattle.ka_cpu.specs.Exec.{is_listed};
-ghost use Rattle.ka_cpu.specs.declared.outcome.StopReason.TheVariants.{IllegalInstruction};
+ghost use Rattle.ka_state.specs.declared.outcome.StopReason.TheVariants.{IllegalInstruction};
 ghost use Rattle.ka_cpu.specs.Addresses.{target_of, used_in};
-ghost use Rattle.ka_cpu.specs.Memory.{ac_with, core_with, is_legal};
+ghost use Rattle.ka_state.specs.Memory.{ac_with, core_with, is_legal};
 ghost use Rattle.ka_cpu.specs.Jumps.{jffo_row, aobj_row, jrst_row, jfcl_row, jsr_row, jsp_row, jsa_row, jra_row, call_row};
 
 use crate::address::find_used;
 use crate::instruction::{ILLEGAL, Instruction, is_legal_address};
-use crate::memory::store;
-use crate::registers::{flags_of, next_pc_word};
-use crate::{CallKind, Flags, JobMemory, Outcome, Regs, StopReason, fetch};
+use ka_state::{
+    CallKind, Flags, JobMemory, Outcome, Regs, StopReason, fetch, flags_of, next_pc_word, store,
+};
 use ka_word::{count_up, leading_zeros};
 use word36::{Address, Word};
 

@@ -5,17 +5,18 @@ ghost use Rattle.word36.specs.Words.{left_half, right_half};
 ghost use Rattle.ka_word.specs.Pushdown.{counted_up};
 ghost use Rattle.ka_cpu.specs.Addresses.{LeadsOutside, LeadsTo, LeadsTooFar, Target, target_of};
 ghost use Rattle.ka_cpu.specs.Blocks.{IsCopied, blt_after, word_count};
-ghost use Rattle.ka_cpu.specs.Effects.{EndsAs, a_of, next_pc};
+ghost use Rattle.ka_cpu.specs.Effects.{EndsAs, a_of};
+ghost use Rattle.ka_state.specs.Registers.{next_pc};
 ghost use Rattle.ka_cpu.specs.Exec.{ComesTo, ExecutesTooFar, RefusedOnTheWay, exec, word_behind};
-ghost use Rattle.ka_cpu.specs.Memory.{is_legal, word_at};
+ghost use Rattle.ka_state.specs.Memory.{is_legal, word_at};
 ghost use Rattle.ka_cpu.specs.Runs.{ran, ran_then};
 ghost use Rattle.ka_cpu.specs.Stacks.{popped, pushed};
 ghost use Rattle.ka_cpu.specs.Instructions.{Instruction};
 ghost use Rattle.ka_cpu.specs.declared.limits.TheConstants.{MOST_EXECUTES, MOST_LINKS};
-ghost use Rattle.ka_cpu.specs.declared.outcome.Outcome.TheVariants.{Done};
-ghost use Rattle.ka_cpu.specs.declared.outcome.StopReason.TheVariants.{AddressChain, IllegalAddress};
+ghost use Rattle.ka_state.specs.declared.outcome.Outcome.TheVariants.{Done};
+ghost use Rattle.ka_state.specs.declared.outcome.StopReason.TheVariants.{AddressChain, IllegalAddress};
 
-use crate::{Regs, StopReason};
+use ka_state::{Regs, StopReason};
 
 /// An address is what a chain of at most `MOST_LINKS` links leads to, and there is no other.
 #[tactic(auto, using(crate::proofs::ChainLaw::chain_laws))]

@@ -7,7 +7,7 @@ ghost use Rattle.ka_cpu.specs.Tests.{test_row, mask_source, masked, modified};
 ghost use Rattle.ka_cpu.specs.Effects.{computed_operand, ac_put};
 
 use crate::instruction::{ILLEGAL, Instruction, can_store, operand_to_compute, put_computed};
-use crate::{JobMemory, Outcome, Regs, fetch};
+use ka_state::{JobMemory, Outcome, Regs, fetch};
 use ka_word::{combine, skips, turn_mask};
 use word36::Word;
 

@@ -9,8 +9,7 @@ ghost use Rattle.ka_cpu.specs.Moves.{move_row, exch_row};
 use crate::instruction::{
     ILLEGAL, Instruction, can_store, operand_to_move, put_moved, set_carries, try_put_moved,
 };
-use crate::memory::store;
-use crate::{JobMemory, Outcome, Regs, fetch};
+use ka_state::{JobMemory, Outcome, Regs, fetch, store};
 use ka_word::negate;
 use word36::Word;
 

@@ -7,8 +7,8 @@ ghost use Rattle.ka_cpu.specs.Next.{call_in, next_call};
 
 use crate::address::find_address;
 use crate::processor::{accumulator_field, follow_executes, is_execute_word, operation};
-use crate::{Accumulator, CallKind, ReadMemory, Regs, StopReason, fetch};
 use ka_isa::{Family, classify};
+use ka_state::{Accumulator, CallKind, ReadMemory, Regs, StopReason, fetch};
 use word36::{Address, Word};
 
 /// The word that is executed where this one is to be, over at most `MOST_EXECUTES` XCTs: itself, unless it is XCT.

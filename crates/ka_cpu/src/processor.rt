@@ -5,14 +5,14 @@ ghost use Rattle.ka_cpu.specs.declared.limits.TheConstants.{MOST_EXECUTES};
 ghost use Rattle.ka_cpu.specs.Addresses.{reading};
 ghost use Rattle.ka_cpu.specs.Effects.{EndsAs};
 ghost use Rattle.ka_cpu.specs.Exec.{ac_field, exec, is_xct, op_of, word_behind, word_performed};
-ghost use Rattle.ka_cpu.specs.Memory.{word_at};
+ghost use Rattle.ka_state.specs.Memory.{word_at};
 ghost use Rattle.ka_cpu.specs.Runs.{ran};
 
+use crate::MOST_EXECUTES;
 use crate::address::find_address;
 use crate::dispatch::{HERE, LOOP, RUN, STEP, carry_out, refusal};
 use crate::instruction::{ILLEGAL, Instruction};
-use crate::memory::fetch_code;
-use crate::{CoreWords, JobMemory, MOST_EXECUTES, Outcome, ReadMemory, Regs, StopReason, fetch};
+use ka_state::{CoreWords, JobMemory, Outcome, ReadMemory, Regs, StopReason, fetch, fetch_code};
 use word36::{Address, Word};
 
 /// The operation of a word.

@@ -5,7 +5,7 @@ ghost use Rattle.ka_cpu.specs.Effects.{finished, next_ac};
 ghost use Rattle.ka_cpu.specs.Shifts.{pair_of, shift_row};
 
 use crate::instruction::Instruction;
-use crate::{JobMemory, Outcome, Regs};
+use ka_state::{JobMemory, Outcome, Regs};
 use ka_word::{shift_pair, shift_signed, shift_word, turn_pair, turn_word};
 use word36::Word;
 

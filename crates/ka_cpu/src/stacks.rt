@@ -6,9 +6,7 @@ ghost use Rattle.ka_cpu.specs.Effects.{outcome_of};
 ghost use Rattle.ka_cpu.specs.Stacks.{pushj_row, push_row, pop_row, popj_row};
 
 use crate::instruction::{ILLEGAL, Instruction, is_legal_address};
-use crate::memory::{store, try_store};
-use crate::registers::next_pc_word;
-use crate::{JobMemory, Outcome, Regs, StopReason, fetch};
+use ka_state::{JobMemory, Outcome, Regs, StopReason, fetch, next_pc_word, store, try_store};
 use ka_word::{pop_up, push_down, runs_under};
 use word36::Address;
 

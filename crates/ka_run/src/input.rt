@@ -2,7 +2,7 @@
 
 ghost use Rattle.std.specs.Prelude.{◌<◌, ◌^◌, IfSome};
 
-use ka_cpu::{Flags, flags_of};
+use ka_state::{Flags, flags_of};
 use word36::{ADDRESSES, Address, MOST_BLOCKS, Word};
 
 /// One line of the input.

@@ -10,7 +10,8 @@ mod input;
 mod report;
 
 use input::{Line, read_line};
-use ka_cpu::{Flags, Regs, run_steps};
+use ka_cpu::run_steps;
+use ka_state::{Flags, Regs};
 use program_shell::{
     DONE, Failure, FailureLines, REFUSED, USAGE, arguments_or_status, read_input, report_failure,
     report_to,

@@ -1,6 +1,6 @@
 //! The state that is left.
 
-use ka_cpu::{CallKind, Outcome, Regs, pc_word};
+use ka_state::{CallKind, Outcome, Regs, pc_word};
 use std::io;
 use word36::Word;
 

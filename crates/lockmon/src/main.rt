@@ -18,6 +18,7 @@ fn main(rt: HostRuntime) -> ExitCode {
     let mut reader = KeptIn::new(alloc, language, HostIn::new(rt.stdin()));
     let mut writer = HostOut::new(rt.stdout());
     let mut reports = HostOut::new(rt.stderr());
+    let mut notes = HostOut::new(rt.stderr());
     let status = program_reporting(
         alloc,
         arguments.as_slice(),
@@ -25,6 +26,7 @@ fn main(rt: HostRuntime) -> ExitCode {
         &mut writer,
         &mut errors,
         &mut reports,
+        &mut notes,
     );
     ExitCode::from(status)
 }

@@ -1,1 +1,3 @@
 pub mod FaultLemmas
+mod LineLemmas
+mod RoundLemmas

@@ -1,8 +1,10 @@
 //! The command line.
 
 use clap::{Arg, ArgMatches, Command};
+use machine::MOST_QUANTUM;
+use op_script::Config;
 use program_shell::{
-    Refusal, Wrong, make_flag, make_option, make_top, matches_of, number_of, refused,
+    Refusal, Wrong, make_command, make_flag, make_option, matches_of, number_of, refused, size_in,
 };
 use std::alloc::{AllocError, Global};
 use std::convert::AsStr;
@@ -24,13 +26,13 @@ pub enum Form {
 /// What the arguments ask for.
 #[derive(Drop)]
 pub struct Options {
-    /// Whether the script is one of `lockmon run`.
-    pub run: bool,
+    /// The machine of a script of `lockmon run`; `None` if the script is one of `lockmon queue`.
+    pub machine: Option<Config>,
     /// What is written of it.
     pub form: Form,
-    /// The line after which the waits are drawn, where it is not the last.
+    /// The line after which the waits are drawn, if it is not the last.
     pub at: Option<usize>,
-    /// The file of the script, where it is not standard input.
+    /// The file of the script, if it is not standard input.
     pub file: Option<String>,
 }
 
@@ -55,12 +57,15 @@ const FILE: &str = "the script, and not standard input";
 const WRONG_EXPLAIN: &str =
     "'--explain' makes no picture: it stands with neither '--text' nor '--at'";
 
+const WRONG_SIZE: &str =
+    "'--blocks' and '--quantum' say on which machine a script of `lockmon run` is obeyed: they stand with '--run'";
+
 const WRONG_AT: &str =
     "invalid value for '--at <N>': the number of a line of the script, 1 or more, is wanted";
 
 /// The command line of the program.
-fn make_command<'a>(alloc: Global) -> Result<Command<'a>, AllocError> {
-    let top = make_top(alloc, "lockview", ABOUT, END);
+fn make_all<'a>(alloc: Global) -> Result<Command<'a>, AllocError> {
+    let top = make_command(alloc, "lockview", ABOUT, END)?;
     let with_run = top.arg(make_flag(alloc, "run", RUN))?;
     let with_text = with_run.arg(make_flag(alloc, "text", TEXT))?;
     let with_at = with_text.arg(make_option(alloc, "at", AT))?;
@@ -85,10 +90,25 @@ fn at_in<'a>(matches: &ArgMatches<'a>) -> Result<Option<usize>, Wrong<'a>> {
     }
 }
 
-/// What is asked for by what `clap` took.
+/// The machine of a script of `lockmon run`, if it is one.
+fn machine_in<'a>(matches: &ArgMatches<'a>) -> Result<Option<Config>, Wrong<'a>> {
+    let size = size_in(matches, MOST_QUANTUM)?;
+    if matches.get_flag("run") {
+        return Ok(Some(Config::new(size.blocks, size.quantum).unwrap()));
+    }
+    if matches.get_str("blocks").is_some() || matches.get_str("quantum").is_some() {
+        return Err(Wrong::Other(WRONG_SIZE));
+    }
+    Ok(None)
+}
+
+/// The options by what `clap` took.
 fn options_in<'a>(alloc: Global, matches: &ArgMatches<'a>) -> Result<Options, Wrong<'a>> {
     let at = at_in(matches)?;
-    let run = matches.get_flag("run");
+    let machine = match machine_in(matches) {
+        Ok(machine) => machine,
+        Err(wrong) => return Err(wrong),
+    };
     let is_text = matches.get_flag("text");
     let is_explained = matches.get_flag("explain");
     if is_explained && (is_text || at.is_some()) {
@@ -102,7 +122,7 @@ fn options_in<'a>(alloc: Global, matches: &ArgMatches<'a>) -> Result<Options, Wr
         Form::Svg
     };
     Ok(Options {
-        run,
+        machine,
         form,
         at,
         file: file_in(alloc, matches)?,
@@ -111,7 +131,7 @@ fn options_in<'a>(alloc: Global, matches: &ArgMatches<'a>) -> Result<Options, Wr
 
 /// What the arguments, which begin with the program's name, ask for.
 pub fn read_arguments<S: AsStr>(alloc: Global, arguments: &[S]) -> Result<Options, Refusal> {
-    let Ok(mut command) = make_command(alloc) else {
+    let Ok(mut command) = make_all(alloc) else {
         return Err(Refusal::Memory);
     };
     let matches = matches_of(&mut command, arguments)?;

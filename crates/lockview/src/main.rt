@@ -4,7 +4,7 @@
 
 mod arguments;
 mod axis;
-mod refusals;
+mod called;
 mod run_course;
 mod run_lines;
 mod run_reasons;

@@ -1,129 +1,118 @@
-//! The lines of a script of `lockmon run`, each served as `lockmon run` does it.
-ghost use Rattle.std.specs.Prelude.{◌≡◌, ◌<◌, ◌≤◌, ◌⊎◌, ℕ, IfErr, IfSome};
+//! The lines of a script of `lockmon run`, each done as `lockmon run` does it.
+ghost use Rattle.std.specs.Prelude.{◌≡◌, ◌<◌, ◌≤◌, ◌+◌, ℕ, [], IfErr, IfOk};
+ghost use Rattle.op_script.specs.RunScripts.{end_of, line_effect};
+ghost use Rattle.run_events.specs.Runs.{facts_of_round};
 ghost use Rattle.lockview.specs.Faults.{IsLineFault};
+ghost use Rattle.lockview.specs.Rounds.{passed, repeated_by, step_facts_of, stepped, tick_facts_of, tick_of};
 
-use lock_bars::{MOST_LINES, ScriptError, SourceFault};
-use op_script::{Config, RunService};
-use script_io::{Ending, LineService, Parts, number};
+use lock_bars::{ScriptError, SourceFault};
+use op_script::{LineEnd, Machine, RunState, obey};
+use run_commands::{Command, read_command};
+use run_events::{Fact, RoundsMade, rounds_facts, tick_facts};
+use script_io::{Ending, is_allowed};
 use std::alloc::{AllocError, Global};
+use uuo_calls::BlockRoom;
+use word36::Address;
 
-/// The commands that run many ticks or steps, and the line that runs one.
-static RUNNING: [(&[u8], &[u8]); 3] = [
-    (b"RUN ", b"RUN 1"),
-    (b"STEP ", b"STEP 1"),
-    (b"TICK ", b"TICK 1"),
-];
-
-/// The line that runs one tick or step, and how many of them a line runs, where these are no more than `most`.
-pub fn ticks_of(line: &[u8], most: u32) -> Option<(&'static [u8], usize)>
-    ensures { IfSome result (λ ticks. ticks.1 ≤ most) }
-{
-    for (name, one) in &RUNNING {
-        if let Some(count) = line.strip_prefix(*name) {
-            let ticks = number(10, most as u64, count)? as usize;
-            return Some((*one, ticks));
-        }
-    }
-    None
-}
-
-/// Where the last source of a script stands.
-#[derive(Clone, Copy)]
-pub struct Sources {
-    /// The line with the last ASSEMBLE.
-    pub begins: usize,
-    /// Whether its ENDASM is still to come.
-    pub is_open: bool,
-}
-
-impl Sources {
-    /// No source yet.
-    pub fn new() -> Self {
-        Sources {
-            begins: 0,
-            is_open: false,
-        }
-    }
-
-    /// Takes note of a line that was served, and says whether it belongs to a source.
-    pub fn note(&mut self, number: usize, line: &[u8]) -> bool {
-        if self.is_open {
-            self.is_open = line != b"ENDASM".as_slice();
-            return true;
-        }
-        if line.starts_with(b"ASSEMBLE ".as_slice()) {
-            self.begins = number;
-            self.is_open = true;
-        }
-        self.is_open
-    }
-}
-
-/// The line of a source and the code that `?ASM line code` reports.
-fn fault_in(answers: &[u8]) -> Option<(usize, u8)> {
-    let reported = answers.strip_prefix(b"?ASM ".as_slice())?;
-    let mut numbers = Parts::of(reported.strip_suffix(b"\n".as_slice())?, b' ');
-    let line = number(10, MOST_LINES as u64, numbers.next()?)?;
-    let code = number(10, 7, numbers.next()?)?;
-    Some((line as usize, code as u8))
-}
-
-/// The fault that the answers report of the source that begins at a line of the script.
-fn source_fault(answers: &[u8], begins: usize) -> ScriptError
-    ensures { (number : ℕ) → IsLineFault number result }
-{
-    let (line, code) = fault_in(answers).unwrap_or((0, 7));
-    ScriptError::Source(SourceFault { begins, line, code })
-}
-
-/// Serves a line, adds what `lockmon run` answers, and says whether the script goes on behind it. The last source began at
-/// the line `begins`.
-pub fn answer_line(
-    service: &mut RunService,
-    number: usize,
-    line: &[u8],
-    begins: usize,
-    answers: &mut Vec<u8>,
-) -> Result<bool, ScriptError>
-    requires { 0 < number }
-    ensures { IfErr result (λ e. IsLineFault number e) }
-{
-    match service.take_line(number as u128, line, answers)? {
-        None => Ok(true),
-        Some(Ending::Done) => Ok(false),
-        Some(Ending::Script(_)) => Err(ScriptError::Line(number)),
-        Some(Ending::Source(_)) => Err(source_fault(answers.as_slice(), begins)),
-    }
-}
-
-/// Serves a line as `answer_line`, without its answers.
-pub fn take_line(
+/// Does a line, and adds what `lockmon run` answers. A line that is not in the grammar is an error, and so is a source that is
+/// not assembled.
+pub fn do_line(
     alloc: Global,
-    service: &mut RunService,
+    state: &mut RunState,
     number: usize,
     line: &[u8],
-    begins: usize,
-) -> Result<bool, ScriptError>
+    answers: &mut Vec<u8>,
+) -> Result<LineEnd, ScriptError>
     requires { 0 < number }
-    ensures { IfErr result (λ e. IsLineFault number e) }
+    ensures state { IfOk result (λ _. state.new ≡ (line_effect number state.old line.now).state) }
+    ensures end { IfOk result (λ end. end ≡ end_of (line_effect number state.old line.now)) }
+    ensures fault { IfErr result (λ e. IsLineFault number e) }
 {
-    let mut answers = Vec::new(alloc);
-    answer_line(service, number, line, begins, &mut answers)
-}
-
-/// Ends the script behind so many lines.
-pub fn end_lines(alloc: Global, service: &mut RunService, lines: usize) -> Result<(), ScriptError>
-    ensures { IfErr result (λ e. (e ≡ ScriptError.Memory) ⊎ (e ≡ ScriptError.NoEnd lines)) }
-{
-    let mut answers = Vec::new(alloc);
-    match service.end_lines(lines as u128, &mut answers)? {
-        Ending::Done => Ok(()),
-        Ending::Script(_) | Ending::Source(_) => Err(ScriptError::NoEnd(lines)),
+    let end = obey(alloc, state, number as u128, line, answers)?;
+    match end.ending {
+        Some(Ending::Script(_)) => Err(ScriptError::Line(number)),
+        Some(Ending::Source(fault)) => Err(ScriptError::Source(SourceFault {
+            begins: usize::try_from(fault.before).unwrap_or(usize::MAX),
+            line: fault.line,
+            code: fault.code,
+        })),
+        Some(Ending::Done) | None => Ok(end),
     }
 }
 
-/// The machine of a script: 64 blocks of core and a quantum of one tick.
-pub fn new_service(alloc: Global) -> Result<RunService, AllocError> {
-    let config = Config::new(64, 1).unwrap();
-    RunService::new(alloc, config)
+/// What a line has happen many times.
+#[derive(Clone, Copy, PartialEq, Eq)]
+pub enum Repeated {
+    /// STEP: a step.
+    Step,
+    /// RUN: a round, which is a step and a tick.
+    Round,
+    /// TICK: a tick.
+    Tick,
+}
+
+/// What a line has happen many times, and how many, if it is no line of a source.
+pub fn repeated_by(state: &RunState, line: &[u8]) -> Option<(Repeated, u32)>
+    ensures { result ≡ repeated_by state.now.source line.now }
+{
+    if state.source.is_some() || !is_allowed(line) {
+        return None;
+    }
+    match read_command(line)? {
+        Command::Step(count) => Some((Repeated::Step, count)),
+        Command::Run(count) => Some((Repeated::Round, count)),
+        Command::Tick(count) => Some((Repeated::Tick, count)),
+        _ => None,
+    }
+}
+
+/// Makes the steps of 1 to `most` rounds at once, and the ticks between them: up to the first round that may have a fact. The
+/// facts of the last step are with them.
+pub fn make_steps(
+    alloc: Global,
+    machine: &mut Machine,
+    room: &mut BlockRoom,
+    repeated: Repeated,
+    most: u32,
+) -> Result<RoundsMade, AllocError>
+    requires { 1 ≤ most }
+    ensures least { IfOk result (λ r. 1 ≤ r.made) }
+    ensures most { IfOk result (λ r. r.made ≤ most) }
+    ensures state { IfOk result (λ r. machine.new ≡ stepped repeated r.made machine.old) }
+    ensures facts { IfOk result (λ r. r.facts.items ≡ step_facts_of repeated r.made machine.old) }
+    ensures quiet { IfOk result (λ r. (k : ℕ) → k + 1 < r.made → facts_of_round (passed repeated k machine.old) ≡ []) }
+{
+    match repeated {
+        Repeated::Round => {
+            let rounds = rounds_facts(alloc, machine, room, most)?;
+            Ok(rounds)
+        }
+        Repeated::Step => {
+            let step = rounds_facts(alloc, machine, room, 1)?;
+            Ok(step)
+        }
+        Repeated::Tick => Ok(RoundsMade {
+            made: 1,
+            job: None,
+            has_called: false,
+            at: Address::new(0),
+            facts: Vec::new(alloc),
+        }),
+    }
+}
+
+/// Makes the tick after these steps, if there is one, and gives its facts.
+pub fn make_tick(
+    alloc: Global,
+    machine: &mut Machine,
+    repeated: Repeated,
+) -> Result<Vec<Fact>, AllocError>
+    ensures state { IfOk result (λ _. machine.new ≡ tick_of repeated machine.old) }
+    ensures facts { IfOk result (λ facts. facts.items ≡ tick_facts_of repeated machine.old) }
+{
+    match repeated {
+        Repeated::Step => Ok(Vec::new(alloc)),
+        Repeated::Round => tick_facts(alloc, machine),
+        Repeated::Tick => tick_facts(alloc, machine),
+    }
 }

@@ -1,37 +1,43 @@
 //! A script of `lockmon run` with the answers to its lines, with the rule of each refusal, and with the lock calls of its
-//! RUN and STEP lines that were refused or that wait.
-ghost use Rattle.std.specs.Prelude.{◌≡◌, ◌<◌, ◌≤◌, IfErr, IfOk, None, length, map};
+//! RUN and STEP lines that were refused or that wait, and the waits whose limits ended.
+ghost use Rattle.std.specs.Prelude.{◌≡◌, ◌<◌, ◌≤◌, IfErr, IfOk, None, is_none, length};
 ghost use Rattle.std.specs.Str.Lines.{lines};
-ghost use Rattle.lockview.specs.Faults.{IsLengthFault, IsLineFault};
-ghost use Rattle.step_reasons.specs.MadeCalls.{as_made, made_between};
+ghost use Rattle.op_script.specs.RunScripts.{line_effect, with_machine};
+ghost use Rattle.lockview.specs.Faults.{IsLengthFault, IsLineFault, script_lines_done};
+ghost use Rattle.lockview.specs.Rounds.{passed};
 
-use crate::refusals::rule_behind;
-use crate::run_lines::{Sources, answer_line, end_lines, new_service, ticks_of};
+use crate::called::{ExplainedCall, explained};
+use crate::run_lines::{Repeated, do_line, make_steps, make_tick, repeated_by};
 use lock_bars::{MOST_LINES, ScriptError, ScriptLines};
-use op_script::{MOST_EVENTS, RunService};
+use lock_queue::{LockTable, Refusal};
+use op_script::{Config, Machine, RunState};
 use program_shell::PendingText;
+use run_events::Fact;
 use script_reasons::{say_answers, say_explanation};
 use shown_bytes::shown_text;
-use std::alloc::Global;
-use step_reasons::{LockService, MadeCall, Standing, made_calls};
+use std::alloc::{AllocError, Global};
+use uuo_calls::{BlockRoom, LockService};
 
-/// The most lock calls that are written of one line.
+/// The most facts that are written of one line.
 const MOST_NOTES: usize = 20;
 
-/// The lock calls of a line that were refused or that wait.
+/// The notes on the facts of a line.
 #[derive(Drop)]
 struct Notes {
     text: PendingText,
     /// How many there are.
     count: usize,
+    /// The unit that is counted: steps or ticks.
+    unit: &'static str,
 }
 
-/// What a call was answered: a code, in octal too where that differs, as its AC is mostly shown; or WAIT.
-fn say_code(text: &mut PendingText, code: u32) {
-    if code == 0 {
+/// What a call was answered: the code of a refusal, in octal too if that differs, as its AC is mostly shown; or WAIT.
+fn say_answer(text: &mut PendingText, refusal: Option<Refusal>) {
+    let Some(refusal) = refusal else {
         text.say(", WAIT");
         return;
-    }
+    };
+    let code = refusal.code();
     text.say_number(", CODE ", u64::from(code), "");
     if code > 7 {
         let alloc = text.alloc;
@@ -39,142 +45,186 @@ fn say_code(text: &mut PendingText, code: u32) {
     }
 }
 
-/// Which call was made in which step of a line, what it was answered, and why.
-fn say_call(text: &mut PendingText, step: usize, made: &MadeCall) {
-    text.say_number("    step ", step as u64, "");
-    text.say_number(", job ", u64::from(made.job), ": ");
+/// Which call was made, what it was answered, and why.
+fn say_call(text: &mut PendingText, made: &ExplainedCall) {
     let alloc = text.alloc;
-    let function = made.function;
-    text.say(match made.service {
+    let function = made.asked.word.left();
+    text.say(match made.asked.service {
         LockService::Enq => "ENQ. ",
         LockService::Deq => "DEQ. ",
+        LockService::Enqc => "ENQC. ",
     });
     text.say_made(format!(in alloc; "{function:o}"));
-    say_code(text, made.code);
+    say_answer(text, made.refusal);
     text.say(": ");
     say_explanation(text, &made.explanation);
-    text.end_line();
 }
 
-/// Takes note of the lock calls that were made in a step.
-fn note_calls(notes: &mut Notes, step: usize, made: &[MadeCall]) {
-    for call in made {
-        if notes.count < MOST_NOTES {
-            say_call(&mut notes.text, step, call);
+impl Notes {
+    /// No notes yet on what a line has happen.
+    fn new(alloc: Global, repeated: Repeated) -> Self {
+        Notes {
+            text: PendingText::new(alloc),
+            count: 0,
+            unit: match repeated {
+                Repeated::Tick => "tick",
+                Repeated::Step | Repeated::Round => "step",
+            },
         }
-        notes.count = notes.count.saturating_add(1);
+    }
+
+    /// Takes note of a fact of a job; true if it is written.
+    fn begin(&mut self, step: u32, job: u8) -> bool {
+        self.count = self.count.saturating_add(1);
+        if self.count > MOST_NOTES {
+            return false;
+        }
+        self.text.say("    ");
+        self.text.say(self.unit);
+        self.text.say_number(" ", u64::from(step), "");
+        self.text.say_number(", job ", u64::from(job), ": ");
+        true
+    }
+
+    /// Takes note of the facts of a step or of a tick, which left these locks.
+    fn add<L: LockTable>(
+        &mut self,
+        alloc: Global,
+        step: u32,
+        facts: Vec<Fact>,
+        locks: &L,
+    ) -> Result<(), AllocError> {
+        for fact in facts {
+            match fact {
+                Fact::Called(called) => {
+                    if let Some(made) = explained(alloc, locks, called)?
+                        && self.begin(step, made.job)
+                    {
+                        say_call(&mut self.text, &made);
+                        self.text.end_line();
+                    }
+                }
+                Fact::LimitEnded(job, request) => {
+                    if self.begin(step, job) {
+                        self.text.say("time limit ended");
+                        if let Some(id) = request {
+                            self.text
+                                .say_number(", request ", u64::from(id.number()), "");
+                        }
+                        say_answer(&mut self.text, Some(Refusal::TimedOut));
+                        self.text.end_line();
+                    }
+                }
+                _ => {}
+            }
+        }
+        Ok(())
+    }
+
+    /// Writes them.
+    fn say_to(&self, text: &mut PendingText) {
+        text.add(self.text.as_bytes());
+        if self.count > MOST_NOTES {
+            text.say_number("    and ", (self.count - MOST_NOTES) as u64, " more\n");
+        }
+        if !self.text.is_whole() {
+            text.fail();
+        }
     }
 }
 
-/// Serves a line that runs one step. Gives the lock calls that were made in it and were refused or wait, and whether a job
-/// ran.
-fn serve_step(
+/// Makes the steps or the ticks of a line, and takes note of their facts; gives in how many steps a job ran.
+fn note_steps(
     alloc: Global,
-    service: &mut RunService,
-    number: usize,
-    one: &[u8],
-) -> Result<(Vec<MadeCall>, bool), ScriptError>
-    requires { 0 < number }
-    ensures made { IfOk result (λ served. map as_made served.0.items
-        ≡ made_between service.old.state.machine.world service.new.state.machine.world) }
-    ensures fault { IfErr result (λ e. IsLineFault number e) }
+    notes: &mut Notes,
+    machine: &mut Machine,
+    repeated: Repeated,
+    count: u32,
+) -> Result<u32, AllocError>
+    ensures { IfOk result (λ _. machine.new ≡ passed repeated count machine.old) }
 {
-    let standing = Standing::of(alloc, service.machine())?;
-    let mut answers = Vec::new(alloc);
-    let _ = answer_line(service, number, one, 0, &mut answers)?;
-    let made = made_calls(alloc, &standing, service.machine())?;
-    Ok((made, answers.as_slice() == b"RAN 1 IDLE 0\n".as_slice()))
+    let mut room = BlockRoom::new();
+    let mut ran: u32 = 0;
+    let mut done = 0;
+    'steps: while done < count {
+        let steps = make_steps(alloc, machine, &mut room, repeated, count - done)?;
+        done += steps.made;
+        if steps.job.is_some() {
+            ran = ran.saturating_add(steps.made);
+        }
+        notes.add(alloc, done, steps.facts, machine.locks())?;
+        let facts = make_tick(alloc, machine, repeated)?;
+        notes.add(alloc, done, facts, machine.locks())?;
+    }
+    Ok(ran)
 }
 
-/// Writes the lock calls of a line.
-fn say_notes(text: &mut PendingText, notes: &Notes) {
-    text.add(notes.text.as_bytes());
-    if notes.count > MOST_NOTES {
-        text.say_number("    and ", (notes.count - MOST_NOTES) as u64, " more\n");
-    }
-    if !notes.text.is_whole() {
-        text.fail();
-    }
-}
-
-/// Serves a line that runs many steps one by one, and writes in how many a job ran, and the lock calls that were refused or
-/// that wait.
+/// Has a line happen, and writes in how many of its steps a job ran, and its facts.
 fn explain_steps(
     alloc: Global,
     text: &mut PendingText,
-    service: &mut RunService,
-    number: usize,
-    one: &[u8],
-    steps: usize,
+    state: &mut RunState,
+    repeated: Repeated,
+    count: u32,
 ) -> Result<(), ScriptError>
-    requires { 0 < number }
-    ensures { IfErr result (λ e. IsLineFault number e) }
+    ensures state { IfOk result (λ _. state.new ≡ with_machine state.old (passed repeated count state.old.machine)) }
+    ensures fault { IfErr result (λ e. e ≡ ScriptError.Memory) }
 {
-    let mut notes = Notes {
-        text: PendingText::new(alloc),
-        count: 0,
-    };
-    let mut ran: usize = 0;
-    for before in 0..steps {
-        let (made, has_run) = serve_step(alloc, service, number, one)?;
-        note_calls(&mut notes, before + 1, made.as_slice());
-        if has_run {
-            ran = ran.saturating_add(1);
-        }
+    let mut notes = Notes::new(alloc, repeated);
+    let ran = note_steps(alloc, &mut notes, &mut state.machine, repeated, count)?;
+    if repeated == Repeated::Tick {
+        text.say("    DONE\n");
+    } else {
+        text.say_number("    RAN ", u64::from(ran), "");
+        text.say_number(" IDLE ", u64::from(count.saturating_sub(ran)), "\n");
     }
-    text.say_number("    RAN ", ran as u64, "");
-    text.say_number(" IDLE ", steps.saturating_sub(ran) as u64, "\n");
-    say_notes(text, &notes);
+    notes.say_to(text);
     Ok(())
 }
 
-/// The line that runs one step, and how many of them a line runs, where it is a RUN or a STEP.
-fn steps_of(line: &[u8]) -> Option<(&'static [u8], usize)> {
-    if line.starts_with(b"TICK ".as_slice()) {
-        return None;
-    }
-    ticks_of(line, MOST_EVENTS as u32)
-}
-
-/// Serves a line, writes it with its answers, and says whether the script goes on behind it.
+/// Does a line, writes it with its answers, and says whether the script goes on after it.
 fn explain_line(
     alloc: Global,
     text: &mut PendingText,
-    service: &mut RunService,
-    sources: &mut Sources,
+    state: &mut RunState,
     number: usize,
     line: &[u8],
 ) -> Result<bool, ScriptError>
     requires { 0 < number }
-    ensures { IfErr result (λ e. IsLineFault number e) }
+    ensures state { IfOk result (λ _. state.new ≡ (line_effect number state.old line.now).state) }
+    ensures goes { IfOk result (λ goes. goes ≡ is_none (line_effect number state.old line.now).ending) }
+    ensures fault { IfErr result (λ e. IsLineFault number e) }
 {
     text.say_made(shown_text(alloc, line));
     text.end_line();
-    if !sources.is_open
-        && let Some((one, steps)) = steps_of(line)
-    {
-        explain_steps(alloc, text, service, number, one, steps)?;
+    if let Some(repetition) = repeated_by(state, line) {
+        let (repeated, count) = repetition;
+        explain_steps(alloc, text, state, repeated, count)?;
         return Ok(true);
     }
     let mut answers = Vec::new(alloc);
-    let goes_on = answer_line(service, number, line, sources.begins, &mut answers)?;
+    let end = do_line(alloc, state, number, line, &mut answers)?;
     let mut rule = PendingText::new(alloc);
-    rule.say(rule_behind(answers.as_slice()));
+    if let Some(undone) = end.undone {
+        rule.say_made(format!(in alloc; "{undone}"));
+    }
     say_answers(text, answers.as_slice(), &rule);
-    let _ = sources.note(number, line);
-    Ok(goes_on)
+    Ok(end.ending.is_none())
 }
 
-/// Serves a script to its end, and writes each line with its answers.
-fn explain_run(
+/// Adds a script of `lockmon run`, each line with the answers that `lockmon run` gives to it, on a machine of this size. Behind
+/// `?REFUSED` stands the rule; below the answer to RUN and STEP stand the lock calls of the jobs' programs that were refused or
+/// that wait, each with its reason, and the waits whose limits ended. The script is refused at its first line that is at fault,
+/// and where it has more than 10,000 lines.
+pub fn explain_run_script(
     alloc: Global,
+    config: Config,
     text: &mut PendingText,
-    service: &mut RunService,
     script: &[u8],
 ) -> Result<(), ScriptError>
-    ensures { IfErr result (λ e. IsLengthFault None (length (lines script.now)) e) }
+    ensures { IfErr result (λ e. IsLengthFault None (script_lines_done config script.now) (length (lines script.now)) e) }
 {
-    let mut sources = Sources::new();
+    let mut state = RunState::fresh(alloc, config)?;
     let mut lines = ScriptLines::of(script);
     let mut count = 0;
     while let Some(line) = lines.next() {
@@ -182,25 +232,12 @@ fn explain_run(
             return Err(ScriptError::TooLong);
         }
         count += 1;
-        if !explain_line(alloc, text, service, &mut sources, count, line)? {
+        if !explain_line(alloc, text, &mut state, count, line)? {
             return Ok(());
         }
     }
-    end_lines(alloc, service, count)?;
+    if state.source.is_some() {
+        return Err(ScriptError::NoEnd(count));
+    }
     Ok(())
-}
-
-/// Adds a script of `lockmon run`, each line with the answers that `lockmon run` gives to it, on a machine with 64 blocks of
-/// core and a quantum of one tick. Behind `?REFUSED` stands the rule; below the answer to RUN and STEP stand the lock calls
-/// of the jobs' programs that were refused or that wait, each with its reason. The script is refused at its first line that
-/// is at fault, and where it has more than 10,000 lines.
-pub fn explain_run_script(
-    alloc: Global,
-    text: &mut PendingText,
-    script: &[u8],
-) -> Result<(), ScriptError>
-    ensures { IfErr result (λ e. IsLengthFault None (length (lines script.now)) e) }
-{
-    let mut service = new_service(alloc)?;
-    explain_run(alloc, text, &mut service, script)
 }

@@ -9,11 +9,12 @@ use crate::text::say_picture;
 use fault_text::{NO_ENDASM, Refused, explain};
 use lock_bars::{MOST_LINES, ScriptError, ScriptLines, SourceFault, draw_script};
 use lock_svg::{Along, AsSvg};
+use op_script::{OtherMachine, head_of};
 use program_shell::{
-    FAILED, Failure, FailureLines, PendingText, REFUSED, USAGE, read_file, read_input,
-    refuse_arguments, report_failure, report_to, write_output,
+    DONE, FAILED, Failure, FailureLines, PendingText, REFUSED, USAGE, read_file, read_input,
+    refuse_arguments, report_failure, report_to,
 };
-use script_io::{ByteIn, ByteOut, LINE_LENGTH};
+use script_io::{ByteIn, ByteOut, LINE_LENGTH, write_all};
 use script_reasons::explain_script;
 use std::alloc::Global;
 use std::convert::AsStr;
@@ -37,10 +38,9 @@ fn say_drawing(
     options: &Options,
     script: &[u8],
 ) -> Result<(), ScriptError> {
-    let drawing = if options.run {
-        draw_run_script(alloc, script, options.at)?
-    } else {
-        draw_script(alloc, script, options.at)?
+    let drawing = match options.machine {
+        Some(config) => draw_run_script(alloc, config, script, options.at)?,
+        None => draw_script(alloc, script, options.at)?,
     };
     if options.form == Form::Text {
         say_picture(text, &drawing, script);
@@ -63,11 +63,11 @@ fn say_script(
     script: &[u8],
 ) -> Result<(), ScriptError> {
     if options.form != Form::Explained {
-        say_drawing(alloc, text, options, script)
-    } else if options.run {
-        explain_run_script(alloc, text, script)
-    } else {
-        explain_script(alloc, text, script)
+        return say_drawing(alloc, text, options, script);
+    }
+    match options.machine {
+        Some(config) => explain_run_script(alloc, config, text, script),
+        None => explain_script(alloc, text, script),
     }
 }
 
@@ -86,10 +86,9 @@ fn line_at(script: &[u8], number: usize) -> &[u8] {
 
 /// Adds what is wrong with a line of a script.
 fn say_line(text: &mut PendingText, options: &Options, script: &[u8], number: usize) {
-    let language = if options.run {
-        Refused::Run
-    } else {
-        Refused::Queue
+    let language = match options.machine {
+        Some(_) => Refused::Run,
+        None => Refused::Queue,
     };
     text.say_number("line ", number as u64, ": ");
     text.say_made(explain(text.alloc, language, line_at(script, number)));
@@ -107,6 +106,18 @@ fn say_source(text: &mut PendingText, script: &[u8], fault: SourceFault) {
         fault.line,
         script,
     ));
+}
+
+/// Adds a line if a script of `lockmon run` is obeyed on another machine than its head says.
+fn say_head(text: &mut PendingText, options: &Options, script: &[u8]) {
+    let alloc = text.alloc;
+    if let Some(taken) = options.machine
+        && let Some(said) = head_of(line_at(script, 1))
+        && let Some(other) = OtherMachine::of(said, taken)
+    {
+        text.say_made(format!(in alloc; "lockview: {other}"));
+        text.end_line();
+    }
 }
 
 /// Adds why a script is not drawn, in a line.
@@ -173,30 +184,22 @@ fn answer<W: ByteOut, E: ByteOut>(
     ensures silent { WritesOnlyWhenDone (W.has_failed writer.new) (W.written writer.old) (W.written writer.new) result }
 {
     let mut text = PendingText::new(alloc);
-    match say_script(alloc, &mut text, options, script) {
-        Ok(()) if text.is_whole() => write_output(writer, text.as_bytes(), &FAILURE_LINES, errors),
-        Ok(()) => report_failure(errors, &FAILURE_LINES, Failure::Memory),
-        Err(error) => refuse_script(alloc, options, script, error, errors),
+    let mut report = PendingText::new(alloc);
+    say_head(&mut report, options, script);
+    let status = match say_script(alloc, &mut text, options, script) {
+        Ok(()) => DONE,
+        Err(error) => {
+            say_fault(&mut report, options, script, error);
+            status_of(error)
+        }
+    };
+    if !text.is_whole() || !report.is_whole() {
+        return report_failure(errors, &FAILURE_LINES, Failure::Memory);
     }
-}
-
-/// Reports why a script is not drawn, and gives the exit status.
-fn refuse_script<E: ByteOut>(
-    alloc: Global,
-    options: &Options,
-    script: &[u8],
-    error: ScriptError,
-    errors: &mut E,
-) -> u8
-    requires { E.has_failed errors.old ≡ false }
-{
-    let mut text = PendingText::new(alloc);
-    say_fault(&mut text, options, script, error);
-    if text.is_whole() {
-        report_to(errors, text.as_bytes(), status_of(error))
-    } else {
-        report_failure(errors, &FAILURE_LINES, Failure::Memory)
+    if status == DONE && write_all(writer, text.as_bytes()).is_err() {
+        return report_failure(errors, &FAILURE_LINES, Failure::Write);
     }
+    report_to(errors, report.as_bytes(), status)
 }
 
 /// Reads the script of the file that the arguments name, or of the reader, and writes what the arguments ask for: a

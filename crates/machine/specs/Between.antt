@@ -2,7 +2,7 @@
 use Rattle.std.specs.Prelude.{ℕ, ◌≡◌, ◌≢◌, ◌<◌, ◌≤◌, ◌==◌, Bool, false, List, Option, Some, None}
 use Rattle.std.specs.List.{list_any}
 use Rattle.ka_cpu.specs.Runs.{ran}
-use Rattle.ka_cpu.specs.declared.registers.Regs.{Regs}
+use Rattle.ka_state.specs.declared.registers.Regs.{Regs}
 use Rattle.job_sched.specs.Ready.{next_job}
 use Rattle.job_sched.specs.Tables.{job_at}
 use Rattle.job_sched.specs.declared.job.Job.{Job}

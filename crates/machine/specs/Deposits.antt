@@ -1,7 +1,7 @@
 -- What a debugger changes of a job: a word of its memory, and its PC. Neither is an event: the promises on runs speak of events
 -- alone (this project's profile).
 use Rattle.std.specs.Prelude.{ℕ, Bool, true, false, if◌then◌else◌, Option, Some, None}
-use Rattle.ka_cpu.specs.Memory.{ac_with, core_with}
+use Rattle.ka_state.specs.Memory.{ac_with, core_with}
 use Rattle.core_store.specs.Cores.{core_of, with_core}
 use Rattle.job_sched.specs.Changes.{with_job, with_change}
 use Rattle.job_sched.specs.Tables.{job_at}

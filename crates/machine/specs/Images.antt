@@ -2,7 +2,7 @@
 use Rattle.std.specs.Prelude.{ℕ, ◌+◌, ◌-◌, ◌*◌, ◌/◌, ◌^◌, ◌&&◌, nat_lt, if◌then◌else◌, List, [], ◌∷◌, replicate, slice_set, Option, Some}
 use Rattle.std.specs.Prelude.{None}
 use Rattle.word36.specs.declared.sizes.TheConstants.{BLOCK_WORDS}
-use Rattle.ka_cpu.specs.declared.registers.Regs.{Regs}
+use Rattle.ka_state.specs.declared.registers.Regs.{Regs}
 use Rattle.job_sched.specs.Jobs.{no_flags}
 use Rattle.uuo_calls.specs.StatusRow.{Memory, stored_at}
 use Rattle.uuo_calls.specs.declared.core_call.TheConstants.{JBREL}

@@ -1,6 +1,6 @@
 -- What can be seen of a job (this project's profile).
 use Rattle.std.specs.Prelude.{ℕ, if◌then◌else◌, List, Option, Some, None}
-use Rattle.ka_cpu.specs.Memory.{word_at}
+use Rattle.ka_state.specs.Memory.{word_at}
 use Rattle.core_store.specs.Cores.{core_of, blocks_of}
 use Rattle.lock_queue.specs.declared.request.Request.{Request}
 use Rattle.tty_lines.specs.Rings.{Rings}

@@ -1,7 +1,7 @@
 //! What there is to see of a job.
 
 use job_sched::{Stop, Wait};
-use ka_cpu::Flags;
+use ka_state::Flags;
 use tty_lines::LineNumber;
 use word36::Address;
 

@@ -3,7 +3,8 @@
 use crate::machines::Machine;
 use core_store::{CoreStore, PlainCore};
 use job_sched::NO_FLAGS;
-use ka_cpu::{CoreWords, Outcome, Regs, step};
+use ka_cpu::step;
+use ka_state::{CoreWords, Outcome, Regs};
 use monitor::{Answer, Event};
 use std::alloc::{AllocError, Global};
 use word36::{Address, Image, Word};

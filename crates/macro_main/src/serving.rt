@@ -83,15 +83,15 @@ fn assembled_text(alloc: Global, state: &Assembly, source: &[u8]) -> Result<Text
         push_faults(&mut text, state, source)?;
         return Ok(Text::Errors(text));
     }
-    match source_of(state)? {
+    match source_of(state, source)? {
         Some(written) => Ok(Text::Words(written)),
         None => Ok(Text::NotReadBack),
     }
 }
 
-/// Whether the source of the words of an assembly is this text.
-fn is_text_of(state: &Assembly, text: &[u8]) -> Result<bool, AllocError> {
-    match source_of(state)? {
+/// Whether the source of the words of the assembly of a source is this text.
+fn is_text_of(state: &Assembly, source: &[u8], text: &[u8]) -> Result<bool, AllocError> {
+    match source_of(state, source)? {
         Some(written) => Ok(written.text.as_slice() == text),
         None => Ok(false),
     }
@@ -105,7 +105,7 @@ fn text_of(alloc: Global, state: &Assembly, source: &[u8], plain: Plain) -> Resu
         Plain::NotInSubset => assembled_text(alloc, state, source),
         Plain::Written(_) if !state.faults.is_empty() => Ok(Text::NotListed),
         Plain::Written(written) => {
-            if is_text_of(state, written.text.as_slice())? {
+            if is_text_of(state, source, written.text.as_slice())? {
                 Ok(Text::Words(written))
             } else {
                 Ok(Text::NotReadBack)

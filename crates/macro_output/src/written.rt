@@ -2,9 +2,11 @@
 ghost use Rattle.std.specs.Prelude.{IfOk, IfSome, IsTrue};
 ghost use Rattle.macro_output.specs.Shown.{Shows};
 ghost use Rattle.source_check.specs.Same.{ComesTo};
+ghost use Rattle.macro_meaning.specs.Meaning.{IsMeant};
 
 use crate::shown::rows_show;
 use crate::subset::{PlacedName, source_for};
+use macro_meaning::{Table, is_meant};
 use macro_state::{Assembly, Row};
 use macro_symbols::DefinitionKind;
 use source_check::assembles_to;
@@ -72,14 +74,40 @@ fn is_right(alloc: Global, text: &[u8], rows: &[Row], image: &Image) -> Result<b
     assembles_to(alloc, text, image)
 }
 
-/// The source of the subset that stands for an assembly, with its image: a line a word, its labels before it, and END with
-/// the start. None where the assembler of the subset does not make that image of it, or the rows of the listing do not show
-/// its words.
-pub fn source_of(state: &Assembly) -> Result<Option<Written>, AllocError>
+/// The last values of the symbols of an assembly.
+fn values_of(state: &Assembly) -> Result<Table, AllocError> {
+    let mut values = Table::new(state.alloc);
+    for at in 0..state.symbols.len() {
+        if let Some((name, definition)) = state.symbols.at(at) {
+            if let Some(value) = definition.value {
+                values.insert(name, value)?;
+            }
+        }
+    }
+    Ok(values)
+}
+
+/// Whether an image is what its source means, as far as that is judged.
+fn is_meant_by(state: &Assembly, source: &[u8], image: &Image) -> Result<bool, AllocError>
+    ensures { IfOk result (λ holds. IsTrue holds → IsMeant source.now image.now.words.items image.now.start) }
+{
+    let values = values_of(state)?;
+    let pools = state.pool_bases.as_slice();
+    is_meant(state.alloc, &values, pools, source, image)
+}
+
+/// The source of the subset that stands for the assembly of a source, with its image: a line a word, its labels before it, and END with
+/// the start. None where the assembler of the subset does not make that image of it, the rows of the listing do not show
+/// its words, or the image is not what the source means, as far as that is judged.
+pub fn source_of(state: &Assembly, source: &[u8]) -> Result<Option<Written>, AllocError>
     ensures read_back { IfOk result (λ found. IfSome found (λ written. ComesTo written.text.items written.image)) }
     ensures listed { IfOk result (λ found. IfSome found (λ written. Shows state.now.listing.rows.items written.image.words.items)) }
+    ensures meant { IfOk result (λ found. IfSome found (λ written. IsMeant source.now written.image.words.items written.image.start)) }
 {
     let image = image_of(state)?;
+    if !is_meant_by(state, source, &image)? {
+        return Ok(None);
+    }
     let names = placed_names(state)?;
     let text = source_for(state.alloc, &image, names.as_slice())?;
     let rows = state.listing.rows.as_slice();

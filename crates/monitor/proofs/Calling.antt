@@ -2,9 +2,9 @@
 use Rattle.std.proofs.Common.{◌≡◌, ◌∙◌, ℕ, List, Option, Some, ap, sym}
 use Rattle.ka_cpu.specs.Exec.{exec}
 use Rattle.ka_cpu.specs.Next.{call_in, next_call}
-use Rattle.ka_cpu.specs.declared.outcome.CallKind.{CallKind}
-use Rattle.ka_cpu.specs.declared.outcome.Outcome.{Outcome}
-use Rattle.ka_cpu.specs.declared.outcome.Outcome.TheVariants as outcome
+use Rattle.ka_state.specs.declared.outcome.CallKind.{CallKind}
+use Rattle.ka_state.specs.declared.outcome.Outcome.{Outcome}
+use Rattle.ka_state.specs.declared.outcome.Outcome.TheVariants as outcome
 use Rattle.core_store.specs.Cores.{Cores, core_of}
 use Rattle.lock_queue.specs.declared.request.Request.{Request}
 use Rattle.job_sched.specs.Tables.{job_at}

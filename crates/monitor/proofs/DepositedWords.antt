@@ -3,7 +3,7 @@ use Rattle.std.proofs.Common.{◌≡◌, ◌≢◌, ◌∙◌, ◌⊎◌, sym, a
 use Rattle.std.proofs.Common.{◌∷◌, slice_set, slice_get, Option, Some, None, is_some, inl, inr, refl}
 use Rattle.std.proofs.lemmas.Bool.{both_ways, cases_eq}
 use Rattle.std.proofs.lemmas.List.{get_or-set_other, get_or-set_same}
-use Rattle.ka_cpu.specs.Memory.{ac_with, core_with, word_at}
+use Rattle.ka_state.specs.Memory.{ac_with, core_with, word_at}
 use Rattle.core_store.specs.Cores.{core_of, with_core}
 use Rattle.job_sched.specs.Changes.{with_job}
 use Rattle.job_sched.specs.Tables.{job_at}

@@ -2,7 +2,7 @@
 use Rattle.std.proofs.Common.{◌≡◌, ◌<◌, ◌^◌, ◌∙◌, sym, ap, subst, ℕ, zero, suc, true, List, [], ◌∷◌, length}
 use Rattle.std.proofs.Common.{slice_set, slice_index_or, Option, Some, None, is_some, refl, arith}
 use Rattle.std.specs.Option.{option_map}
-use Rattle.ka_cpu.specs.Memory.{core_with}
+use Rattle.ka_state.specs.Memory.{core_with}
 use Rattle.ka_cpu.proofs.ExecLaws.{by_test, length-core_with}
 use Rattle.core_store.specs.Cores.{core_of, with_core}
 use Rattle.job_sched.specs.Changes.{with_job}

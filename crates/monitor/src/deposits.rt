@@ -1,7 +1,7 @@
 //! What a debugger changes of a job: a word of its memory, and its PC. Neither is an event.
 ghost use Rattle.std.specs.Prelude.{◌≡◌, is_some, None};
 ghost use Rattle.std.specs.Option.{option_map};
-ghost use Rattle.ka_cpu.specs.Memory.{core_with, word_at};
+ghost use Rattle.ka_state.specs.Memory.{core_with, word_at};
 ghost use Rattle.core_store.specs.Cores.{IsJob, core_of, with_core};
 ghost use Rattle.job_sched.specs.Changes.{with_change};
 ghost use Rattle.job_sched.specs.Tables.{is_sleeper};
@@ -10,7 +10,7 @@ ghost use Rattle.machine.specs.Deposits.{is_done, with_register};
 
 use core_store::CoreStore;
 use job_sched::{Job, JobTable};
-use ka_cpu::{CoreWords, fetch, store};
+use ka_state::{CoreWords, fetch, store};
 use machine::Answer;
 use word36::{Address, JOBS, Word};
 

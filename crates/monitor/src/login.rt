@@ -7,7 +7,7 @@ ghost use Rattle.machine.specs.Images.{top_from, image_top, loaded, placed, fres
 
 use core_store::{CoreStore, NoCore};
 use job_sched::NO_FLAGS;
-use ka_cpu::{CoreWords, JobMemory, Regs, store};
+use ka_state::{CoreWords, JobMemory, Regs, store};
 use machine::JBREL;
 use word36::{ADDRESSES, Address, BLOCK_WORDS, Image, Word};
 

@@ -7,7 +7,8 @@ ghost use Rattle.machine.specs.Next.{asked_next, block_next};
 
 use core_store::CoreStore;
 use job_sched::Job;
-use ka_cpu::{ReadMemory, next_call};
+use ka_cpu::next_call;
+use ka_state::ReadMemory;
 use std::marker::Model;
 use uuo_calls::{Asked, BlockRoom, MonitorCall, asked_by};
 use word36::{BLOCK_WORDS, Word};

@@ -3,7 +3,8 @@ ghost use Rattle.std.specs.Prelude.{◌≡◌, ◌≤◌, ◌+◌, ℕ, Bool, fa
 ghost use Rattle.ka_cpu.specs.Runs.{ran};
 ghost use Rattle.machine.specs.Between.{NoneOver, is_among};
 
-use ka_cpu::{CoreWords, Outcome, Regs, run_steps_from, step_in_loop};
+use ka_cpu::{run_steps_from, step_in_loop};
+use ka_state::{CoreWords, Outcome, Regs};
 use word36::{Address, Word};
 
 /// A loop that executes the instructions of a turn, and ends it early after some of them.

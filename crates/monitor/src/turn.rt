@@ -1,9 +1,9 @@
 //! A job's turn: an interrupt is delivered, or instructions are executed.
 ghost use Rattle.std.specs.Prelude.{◌≡◌, ◌≢◌, ◌<◌, ◌≤◌, ◌^◌, [], None, true, false};
 ghost use Rattle.core_store.specs.Cores.{IsJob, core_of};
-ghost use Rattle.ka_cpu.specs.Memory.{are_legal};
+ghost use Rattle.ka_state.specs.Memory.{are_legal};
 ghost use Rattle.ka_cpu.specs.Runs.{ran};
-ghost use Rattle.ka_cpu.specs.declared.outcome.StopReason.TheVariants.{IllegalAddress};
+ghost use Rattle.ka_state.specs.declared.outcome.StopReason.TheVariants.{IllegalAddress};
 ghost use Rattle.uuo_calls.specs.CallState.{stopped};
 ghost use Rattle.machine.specs.Between.{NoneOver};
 ghost use Rattle.machine.specs.Stretches.{Stretch, stretch_by, stretch_of};
@@ -12,7 +12,7 @@ ghost use Rattle.machine.specs.Turns.{Turn, delivered, interrupted_at};
 use crate::runner::Runner;
 use core_store::CoreStore;
 use job_sched::{Job, NO_FLAGS, Stop};
-use ka_cpu::{
+use ka_state::{
     Accumulator, CoreWords, JobMemory, Outcome, Regs, StopReason, are_legal_kept, pc_word, store,
     word_kept,
 };

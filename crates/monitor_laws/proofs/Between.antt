@@ -6,7 +6,7 @@ use Rattle.std.proofs.lemmas.List.{get_or-set_other, get_or-set_same}
 use Rattle.ka_cpu.specs.Effects.{After}
 use Rattle.ka_cpu.specs.Exec.{exec}
 use Rattle.ka_cpu.specs.Runs.{Ran, is_done, ran, ran_on}
-use Rattle.ka_cpu.specs.declared.registers.Regs.{Regs}
+use Rattle.ka_state.specs.declared.registers.Regs.{Regs}
 use Rattle.core_store.specs.Cores.{core_of}
 use Rattle.lock_queue.specs.Jobs.{pending}
 use Rattle.job_sched.specs.Changes.{chosen}

@@ -4,8 +4,7 @@ use Rattle.std.proofs.lemmas.Bool.{both_ways}
 use Rattle.std.proofs.lemmas.List.{get_or-set_same}
 use Rattle.word36.specs.declared.sizes.TheConstants.{DATA_WORDS, OUTPUT_RING}
 use Rattle.word36.specs.Words.{right_half}
-use Rattle.ka_cpu.specs.Memory.{is_legal}
-use Rattle.ka_cpu.specs.Memory.{are_legal}
+use Rattle.ka_state.specs.Memory.{is_legal, are_legal, word_below}
 use Rattle.core_store.specs.Cores.{Cores, core_of, with_core}
 use Rattle.lock_queue.specs.declared.call.LockReply.{LockReply}
 use Rattle.lock_queue.specs.declared.call.LockReply.TheVariants.{Granted, Queued, Done as DoneReply, Refused}
@@ -25,7 +24,6 @@ use Rattle.uuo_calls.specs.InterruptRows.{dismissed, dismissed_at, vector_in_pro
 use Rattle.uuo_calls.specs.LockRows.{asked, answered, enq_asks, enq_limit, deq_asks}
 use Rattle.uuo_calls.specs.Performed.{row_of}
 use Rattle.uuo_calls.specs.StatusRow.{stored_or_refused, answers_at, with_room, enqc_asks}
-use Rattle.ka_cpu.specs.Memory.{word_below}
 use Rattle.uuo_calls.specs.TerminalRows.{JobLines, JobInput, put_text, low_character, text_from, input_called, has_input, stored_input, no_input, skipping_if}
 use Rattle.uuo_calls.specs.Laws.{is_terminal_wait}
 use Rattle.ka_cpu.proofs.ExecLaws.{by_test}

@@ -9,11 +9,10 @@ use Rattle.word36.specs.declared.sizes.TheConstants.{BLOCK_WORDS, DATA_WORDS, OU
 use Rattle.word36.specs.Words.{right_half}
 use Rattle.ka_cpu.specs.Effects.{After}
 use Rattle.ka_cpu.specs.Exec.{exec}
-use Rattle.ka_cpu.specs.Memory.{is_legal}
-use Rattle.ka_cpu.specs.declared.outcome.Outcome.{Outcome}
-use Rattle.ka_cpu.specs.declared.outcome.Outcome.TheVariants as outcome
-use Rattle.ka_cpu.specs.declared.outcome.StopReason.TheVariants.{IllegalAddress}
-use Rattle.ka_cpu.specs.Memory.{are_legal}
+use Rattle.ka_state.specs.Memory.{is_legal, are_legal, word_below}
+use Rattle.ka_state.specs.declared.outcome.Outcome.{Outcome}
+use Rattle.ka_state.specs.declared.outcome.Outcome.TheVariants as outcome
+use Rattle.ka_state.specs.declared.outcome.StopReason.TheVariants.{IllegalAddress}
 use Rattle.core_store.specs.Cores.{Cores, IsJob, IsStore, IsWhole, core_of, blocks_of, with_core, taken, resized, resized_words, given}
 use Rattle.core_store.proofs.StoreLemmas.{IsWhole-core_of}
 use Rattle.lock_queue.specs.declared.call.LockReply.{LockReply}
@@ -38,7 +37,6 @@ use Rattle.uuo_calls.specs.InterruptRows.{dismissed, dismissed_at, vector_in_pro
 use Rattle.uuo_calls.specs.LockRows.{asked, answered, enq_asks, enq_limit, deq_asks}
 use Rattle.uuo_calls.specs.Performed.{World, row_of, around, with_around, left_by}
 use Rattle.uuo_calls.specs.StatusRow.{stored_or_refused, answers_at, with_room, enqc_asks, status_told}
-use Rattle.ka_cpu.specs.Memory.{word_below}
 use Rattle.uuo_calls.specs.TerminalRows.{JobLines, JobInput, put_text, text_from, low_character, has_input, stored_input, no_input, input_called, skipping_if}
 use Rattle.machine.specs.Machine.{with_turn, awake}
 use Rattle.machine.specs.Safe.{InRange, Housed, line_of, LinesApart, LinesBelow, all_words}

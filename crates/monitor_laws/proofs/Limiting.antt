@@ -21,7 +21,7 @@ use Rattle.job_sched.specs.declared.job.Wait.{Wait}
 use Rattle.job_sched.specs.declared.job.Wait.TheVariants.{Queue}
 use Rattle.job_sched.specs.declared.job_error.JobError.{JobError}
 use Rattle.job_sched.proofs.Limits.{job-limited, limited-none}
-use Rattle.ka_cpu.specs.declared.registers.Regs.{Regs}
+use Rattle.ka_state.specs.declared.registers.Regs.{Regs}
 use Rattle.uuo_calls.specs.CallState.{ac_of}
 use Rattle.uuo_calls.specs.Performed.{World}
 use Rattle.machine.specs.declared.event.Event.{Event}

@@ -4,9 +4,9 @@ use Rattle.std.proofs.Common.{Option, Some, None, is_some, Result, Ok, Err, refl
 use Rattle.std.proofs.lemmas.Bool.{both_ways}
 use Rattle.word36.specs.Words.{left_half, right_half}
 use Rattle.ka_cpu.specs.Exec.{exec}
-use Rattle.ka_cpu.specs.declared.outcome.Outcome.{Outcome}
-use Rattle.ka_cpu.specs.declared.outcome.Outcome.TheVariants as outcome
-use Rattle.ka_cpu.specs.declared.outcome.StopReason.TheVariants.{IllegalAddress}
+use Rattle.ka_state.specs.declared.outcome.Outcome.{Outcome}
+use Rattle.ka_state.specs.declared.outcome.Outcome.TheVariants as outcome
+use Rattle.ka_state.specs.declared.outcome.StopReason.TheVariants.{IllegalAddress}
 use Rattle.core_store.specs.Cores.{Cores, core_of}
 use Rattle.lock_queue.specs.declared.call.LockCall.{LockCall}
 use Rattle.lock_queue.specs.declared.key.Key.{Key}
@@ -17,7 +17,7 @@ use Rattle.lock_queue.specs.declared.request.EnqueueKind.TheVariants.{Blocking, 
 use Rattle.lock_queue.specs.declared.request.Request.{Request}
 use Rattle.lock_queue.specs.Jobs.{is_one, pending, withdrawn, withdrawn_where}
 use Rattle.call_block.specs.declared.block.Block.{Block}
-use Rattle.ka_cpu.specs.Memory.{are_legal}
+use Rattle.ka_state.specs.Memory.{are_legal, word_below, is_legal}
 use Rattle.lock_queue.specs.declared.terms.BlockUse.TheVariants.{Blocking as ForWaiting, Full, Named}
 use Rattle.call_block.specs.Blocks.{block_at}
 use Rattle.lock_laws.specs.Owning.{owns, is_dequeue}
@@ -34,10 +34,8 @@ use Rattle.uuo_calls.specs.LockRows.{asked, entering, changing, enq_asks, deq_as
 use Rattle.uuo_calls.specs.Performed.{World, row_of, around, performed_by, with_around, left_by}
 use Rattle.uuo_calls.specs.declared.call.CallOutcome.{CallOutcome}
 use Rattle.uuo_calls.specs.declared.call.CallOutcome.TheVariants as ending
-use Rattle.ka_cpu.specs.Memory.{word_below}
 use Rattle.uuo_calls.specs.TerminalRows.{JobLines, JobInput, put_text, low_character, text_from, input_called, has_input, stored_input, no_input}
 use Rattle.tty_lines.specs.Rings.{Rings, input_of, room_of}
-use Rattle.ka_cpu.specs.Memory.{is_legal}
 use Rattle.word36.specs.declared.sizes.TheConstants.{LINES, INPUT_RING, OUTPUT_RING}
 use Rattle.std.specs.List.{list_any}
 use Rattle.machine.specs.declared.sizes.TheConstants.{INTERRUPT_CHARACTER}

@@ -5,12 +5,13 @@ use Rattle.std.proofs.lemmas.Grind.{common_steps}
 use Rattle.std.proofs.lemmas.Bool.{both_ways, eqb-true}
 use Rattle.std.proofs.lemmas.List.{get_or-set_same}
 use Rattle.word36.specs.declared.sizes.TheConstants.{OUTPUT_RING}
-use Rattle.ka_cpu.specs.Effects.{EndsAs, next_pc}
-use Rattle.ka_cpu.specs.declared.outcome.CallKind.{CallKind}
-use Rattle.ka_cpu.specs.declared.outcome.CallKind.TheVariants.{Calli, Ttcall}
-use Rattle.ka_cpu.specs.declared.outcome.Outcome.{Outcome}
-use Rattle.ka_cpu.specs.declared.outcome.Outcome.TheVariants as outcome
-use Rattle.ka_cpu.specs.declared.registers.Regs.{Regs}
+use Rattle.ka_cpu.specs.Effects.{EndsAs}
+use Rattle.ka_state.specs.Registers.{next_pc}
+use Rattle.ka_state.specs.declared.outcome.CallKind.{CallKind}
+use Rattle.ka_state.specs.declared.outcome.CallKind.TheVariants.{Calli, Ttcall}
+use Rattle.ka_state.specs.declared.outcome.Outcome.{Outcome}
+use Rattle.ka_state.specs.declared.outcome.Outcome.TheVariants as outcome
+use Rattle.ka_state.specs.declared.registers.Regs.{Regs}
 use Rattle.core_store.specs.Cores.{core_of, with_core}
 use Rattle.tty_lines.specs.Rings.{Rings, no_characters, output_of, with_output, room_of}
 use Rattle.job_sched.specs.Limits.{limit_of}
@@ -26,7 +27,7 @@ use Rattle.uuo_calls.specs.declared.service.Service.TheVariants.{Outchr, Outstr}
 use Rattle.uuo_calls.specs.CallState.{CallState, put_back}
 use Rattle.uuo_calls.specs.Performed.{World, Performed, row_of, around, performed_by, with_around, left_by, ended}
 use Rattle.uuo_calls.specs.Services.{service_of}
-use Rattle.ka_cpu.specs.Memory.{word_below}
+use Rattle.ka_state.specs.Memory.{word_below}
 use Rattle.uuo_calls.specs.TerminalRows.{JobLines, put_text, low_character, text_from}
 use Rattle.uuo_calls.specs.Laws.{is_terminal_wait}
 use Rattle.machine.specs.Alone.{Solo, solo_after, printed, text_of, is_output, is_allowed}

@@ -7,13 +7,12 @@ use Rattle.std.specs.Option.{option_map}
 use Rattle.word36.specs.Words.{right_half}
 use Rattle.ka_cpu.specs.Effects.{EndsAs}
 use Rattle.ka_cpu.specs.Exec.{exec}
-use Rattle.ka_cpu.specs.Jumps.{pc_word}
-use Rattle.ka_cpu.specs.Memory.{ac_with, is_legal}
-use Rattle.ka_cpu.specs.declared.outcome.Outcome.{Outcome}
-use Rattle.ka_cpu.specs.declared.outcome.Outcome.TheVariants as outcome
-use Rattle.ka_cpu.specs.declared.outcome.StopReason.TheVariants.{IllegalAddress}
-use Rattle.ka_cpu.specs.declared.registers.Regs.{Regs}
-use Rattle.ka_cpu.specs.Memory.{are_legal}
+use Rattle.ka_state.specs.Registers.{pc_word}
+use Rattle.ka_state.specs.Memory.{ac_with, is_legal, are_legal, word_below}
+use Rattle.ka_state.specs.declared.outcome.Outcome.{Outcome}
+use Rattle.ka_state.specs.declared.outcome.Outcome.TheVariants as outcome
+use Rattle.ka_state.specs.declared.outcome.StopReason.TheVariants.{IllegalAddress}
+use Rattle.ka_state.specs.declared.registers.Regs.{Regs}
 use Rattle.core_store.specs.Cores.{Cores, core_of}
 use Rattle.lock_queue.specs.declared.call.LockReply.{LockReply}
 use Rattle.lock_queue.specs.declared.call.LockReply.TheVariants.{Granted, Queued, Done as DoneReply, Refused}
@@ -44,7 +43,6 @@ use Rattle.uuo_calls.specs.JobRows.{ticks_of}
 use Rattle.uuo_calls.specs.LockRows.{asked, answered, enq_asks, enq_limit, deq_asks}
 use Rattle.uuo_calls.specs.Performed.{row_of}
 use Rattle.uuo_calls.specs.StatusRow.{Memory, stored, stored_at, stored_or_refused, status_words, answers_at, with_room, enqc_asks}
-use Rattle.ka_cpu.specs.Memory.{word_below}
 use Rattle.uuo_calls.specs.TerminalRows.{JobLines, JobInput, put_text, low_character, text_from, input_called, has_input, stored_input, no_input}
 use Rattle.uuo_calls.specs.TerminalRows.{first_of, input_wait, skipping_if}
 use Rattle.job_sched.specs.Jobs.{ticked_job, ticked_wait, broken_job}

@@ -4,7 +4,7 @@ use Rattle.std.proofs.Common.{length, Option, Some, None, is_some, refl, arith, 
 use Rattle.std.proofs.lemmas.Bool.{both_ways, eqb-true}
 use Rattle.ka_cpu.specs.Effects.{After}
 use Rattle.ka_cpu.specs.Exec.{exec}
-use Rattle.ka_cpu.specs.declared.registers.Regs.{Regs}
+use Rattle.ka_state.specs.declared.registers.Regs.{Regs}
 use Rattle.core_store.specs.Cores.{core_of}
 use Rattle.tty_lines.specs.Rings.{output_of}
 use Rattle.lock_queue.specs.Jobs.{pending}

@@ -1,7 +1,7 @@
 -- Calls that store leave core as long as it was.
 use Rattle.uuo_calls.specs.declared.service.Awaited.{Awaited}
 use Rattle.std.proofs.Common.{◌≡◌, ◌∙◌, ℕ, ◌+◌, Bool, List, [], ◌∷◌, length, Result, Ok, Err, refl}
-use Rattle.ka_cpu.specs.Memory.{is_legal}
+use Rattle.ka_state.specs.Memory.{is_legal}
 use Rattle.lock_queue.specs.declared.refusal.Refusal.{Refusal}
 use Rattle.lock_queue.specs.declared.request.Request.{Request}
 use Rattle.lock_queue.specs.declared.want.Want.{Want}

@@ -5,7 +5,7 @@ use crate::rows::Reply::{Done, JobNumber, Refused};
 use crate::rows::Row::{Begins, Happens, Job, Loads, NoJob, Shared, Steps, Word};
 use crate::rows::{Table, Words, walk, walk_all};
 use job_sched::{Stop, Wait};
-use ka_cpu::StopReason::{IllegalAddress, IllegalInstruction};
+use ka_state::StopReason::{IllegalAddress, IllegalInstruction};
 use monitor::RefusedEvent::NoCore;
 
 /// CORE of two blocks; refused, it goes on at 142 octal.

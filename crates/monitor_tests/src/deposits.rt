@@ -4,7 +4,7 @@ use crate::rows::Reply::{Done, Refused};
 use crate::rows::Row::{Begins, Deposits, Job, NoJob, Rounds, StartsAt, Word};
 use crate::rows::{Table, walk_all};
 use job_sched::{Stop, Wait};
-use ka_cpu::StopReason::Halt;
+use ka_state::StopReason::Halt;
 use monitor::RefusedEvent::{NoSuchJob, NotStopped};
 
 /// A job that halts at once, one block long.

@@ -5,7 +5,7 @@ use crate::rows::Reply::{Done, Ran};
 use crate::rows::Row::{Begins, Happens, Job, LoadsChain, Locks, Steps, Word};
 use crate::rows::{Table, walk, walk_all};
 use job_sched::{Stop, Wait};
-use ka_cpu::StopReason::{AddressChain, IllegalAddress};
+use ka_state::StopReason::{AddressChain, IllegalAddress};
 use lock_queue::EnqueueKind::AtOnce;
 
 const ILLEGAL: Option<Stop> = Some(Stop::Fault(IllegalAddress));

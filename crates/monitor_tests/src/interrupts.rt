@@ -5,7 +5,7 @@ use crate::rows::Reply::{Done, Idle};
 use crate::rows::Row::{Begins, Happens, Job, Locks, Rounds, Steps, Turns, Word};
 use crate::rows::{Table, walk, walk_all};
 use job_sched::{Stop, Wait};
-use ka_cpu::StopReason::IllegalAddress;
+use ka_state::StopReason::IllegalAddress;
 use lock_queue::EnqueueKind::{AtOnce, Interrupt};
 
 /// Owns two locks, waits for a character, and gives both up by one DEQ.

@@ -1,5 +1,3 @@
-mod NameLemmas
-mod TextLemmas
-mod LineLemmas
 mod ImageLemmas
 mod EventLemmas
+mod HeadLemmas

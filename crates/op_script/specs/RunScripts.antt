@@ -21,31 +21,43 @@ use Rattle.script_io.specs.Endings.{script_fault}
 use Rattle.script_io.specs.declared.endings.Ending.{Ending}
 use Rattle.script_io.specs.declared.endings.Ending.TheVariants as ending
 use Rattle.script_io.specs.Transcripts.{Transcript, after, closed, unless_ended}
-use Rattle.op_script.specs.Commands.{command_of}
+use Rattle.run_commands.specs.Commands.{command_of}
 use Rattle.op_script.specs.ScriptStates.{StateValue}
-use Rattle.op_script.specs.Events.{after_steps, steps_run, Typing, typed_by, Taking, taken_by}
+use Rattle.op_script.specs.Events.{after_steps, steps_run, refusal_in, Typing, typed_by, Taking, taken_by}
 use Rattle.op_script.specs.Images.{Named, image_of, with_image}
 use Rattle.op_script.specs.Printing.{answer_line, ran_line, done_line, taken_line, image_line}
 use Rattle.op_script.specs.Printing.{refused_line, job_line, address_line, word_line}
 use Rattle.op_script.specs.Sources.{SourceText, empty_source, with_line}
-use Rattle.op_script.specs.declared.commands.Command.{Command}
-use Rattle.op_script.specs.declared.commands.Command.TheVariants as command
+use Rattle.op_script.specs.Undone.{refused, unexamined}
+use Rattle.run_commands.specs.declared.commands.Command.{Command}
+use Rattle.run_commands.specs.declared.commands.Command.TheVariants as command
+use Rattle.op_script.specs.declared.line_ends.LineEnd.{LineEnd}
+use Rattle.op_script.specs.declared.line_ends.Undone.{Undone}
 use Rattle.machine.specs.declared.sizes.TheConstants.{MOST_TAKES}
 
--- what a line does: the machine, the images and the source afterwards, what it writes, and how the script ends, if it
--- ends there
+-- what a line does: the machine, the images and the source afterwards, what it writes, how the script ends, if it ends
+-- there, and why its command is not done, if it is not
 pub record Effect : Type 0 where
   pub state : StateValue
   pub text : List ℕ
   pub ending : Option Ending
+  pub undone : Option Undone
+
+-- how a line ends, and why its command is not done
+abbrev pub end_of : Effect → LineEnd
+end_of e = record { ending = e.ending; undone = e.undone }
+
+-- the script goes on, whether the command is done or not
+abbrev pub goes_behind : StateValue → List ℕ → Option Undone → Effect
+goes_behind d text why = record { state = d; text = text; ending = None; undone = why }
 
 -- the script goes on
 abbrev pub goes : StateValue → List ℕ → Effect
-goes d text = record { state = d; text = text; ending = None }
+goes d text = goes_behind d text None
 
 -- the script ends
 abbrev pub ends : StateValue → List ℕ → Ending → Effect
-ends d text e = record { state = d; text = text; ending = Some e }
+ends d text e = record { state = d; text = text; ending = Some e; undone = None }
 
 -- line n is not in the grammar
 abbrev pub fault : ℕ → StateValue → Effect
@@ -58,7 +70,7 @@ with_machine d s = record d { machine = s }
 
 -- one event, whose answer is written
 abbrev pub answered : StateValue → Made → Effect
-answered d m = goes (with_machine d m.state) (answer_line m.answer)
+answered d m = goes_behind (with_machine d m.state) (answer_line m.answer) (refused (refusal_in m.answer))
 
 -- LOGIN: an image that is not known is a fault of the script
 abbrev pub login_effect : ℕ → StateValue → ℕ → Option Assembled → Effect
@@ -72,10 +84,10 @@ steps_effect d most ticking =
     goes (with_machine d (after_steps most ticking d.machine)) (ran_line ran (most - ran))
 
 abbrev pub typing_effect : StateValue → Typing → Effect
-typing_effect d t = goes (with_machine d t.machine) (done_line t.refusal)
+typing_effect d t = goes_behind (with_machine d t.machine) (done_line t.refusal) (refused t.refusal)
 
 abbrev pub taking_effect : StateValue → Taking → Effect
-taking_effect d t = goes (with_machine d t.machine) (taken_line t.refusal t.text)
+taking_effect d t = goes_behind (with_machine d t.machine) (taken_line t.refusal t.text) (refused t.refusal)
 
 -- ---- showing
 
@@ -108,7 +120,7 @@ effect_of n d (Some command.Restart) = answered d (happens d.machine event.Resta
 effect_of n d (Some command.ShowJobs) = goes d (jobs_text d.machine)
 effect_of n d (Some command.ShowLocks) = goes d (show_text d.machine.world.requests)
 effect_of n d (Some command.ShowWaits) = goes d (waits_text d.machine.world.requests)
-effect_of n d (Some (command.Examine job a)) = goes d (examined_text d.machine job a)
+effect_of n d (Some (command.Examine job a)) = goes_behind d (examined_text d.machine job a) (unexamined d.machine job a)
 effect_of n d (Some (command.Data i)) = goes d (word_line (slice_index d.machine.world.shared i))
 effect_of n d (Some command.Quit) = ends d [] ending.Done
 
@@ -133,6 +145,7 @@ assembled_effect d source outcome = record {
   state = record d { images = defined d.images source.name outcome; source = None };
   text = assembled_text source.name outcome;
   ending = assembled_ending source.before outcome;
+  undone = None;
 }
 
 -- ENDASM ends a source; every other line belongs to it

@@ -1,17 +1,19 @@
 //! Commands that stand for several events of the machine.
-ghost use Rattle.std.specs.Prelude.{◌≡◌, ◌++◌, ◌-◌, ◌+◌, ◌≤◌, [], length, replicate, None, OnOk};
+ghost use Rattle.std.specs.Prelude.{◌≡◌, ◌++◌, ◌-◌, ◌+◌, ◌≤◌, [], length, replicate, None, IfOk, OnOk};
 ghost use Rattle.machine.specs.Machine.{happens, after};
 ghost use Rattle.machine.specs.declared.event.Event.TheVariants.{Typed};
 ghost use Rattle.op_script.specs.Events.{after_steps, steps_run, refusal_in, typed_by, taken_by};
 ghost use Rattle.op_script.specs.Printing.{answer_line, ran_line, done_line, taken_line};
+ghost use Rattle.op_script.specs.Undone.{behind};
 
+use crate::line_ends::LineEnd;
 use crate::printing::{push_answer, push_done, push_ran, push_taken};
-use crate::texts::TypedText;
 use arrayvec::ArrayVec;
 use core_store::CoreStore;
 use lock_queue::LockTable;
 use machine::MOST_TAKES;
 use monitor::{Answer, Event, RefusedEvent, System};
+use run_commands::TypedText;
 use std::alloc::AllocError;
 use tty_lines::Char7;
 use word36::{Image, TAKEN_AT_ONCE};
@@ -24,12 +26,14 @@ pub fn happen<L: LockTable, C: CoreStore>(
     machine: &mut System<L, C>,
     event: &Event<'_>,
     out: &mut Vec<u8>,
-) -> Result<(), AllocError>
+) -> Result<LineEnd, AllocError>
     ensures state { OnOk result (machine.new ≡ (happens machine.old event.now).state) }
     ensures text { OnOk result (out.new.items ≡ out.old.items ++ answer_line (happens machine.old event.now).answer) }
+    ensures end { IfOk result (λ end. end ≡ behind (refusal_in (happens machine.old event.now).answer)) }
 {
     let answer = machine.event(event);
-    push_answer(out, &answer)
+    push_answer(out, &answer)?;
+    Ok(LineEnd::behind(refusal_in(answer)))
 }
 
 /// Makes `most` steps, each followed by a tick if `ticking`, and adds in how many a job ran.
@@ -127,12 +131,14 @@ pub fn type_text<L: LockTable, C: CoreStore>(
     line: u8,
     text: &TypedText,
     out: &mut Vec<u8>,
-) -> Result<(), AllocError>
+) -> Result<LineEnd, AllocError>
     ensures state { OnOk result (machine.new ≡ (typed_by text.now machine.old line).machine) }
     ensures text { OnOk result (out.new.items ≡ out.old.items ++ done_line (typed_by text.now machine.old line).refusal) }
+    ensures end { IfOk result (λ end. end ≡ behind (typed_by text.now machine.old line).refusal) }
 {
     let refusal = type_characters(machine, line, text.as_slice());
-    push_done(out, refusal)
+    push_done(out, refusal)?;
+    Ok(LineEnd::behind(refusal))
 }
 
 /// Adds characters to a text that has room for them.
@@ -175,14 +181,16 @@ pub fn take_text<L: LockTable, C: CoreStore>(
     machine: &mut System<L, C>,
     event: &Event<'_>,
     out: &mut Vec<u8>,
-) -> Result<(), AllocError>
+) -> Result<LineEnd, AllocError>
     ensures state { OnOk result (machine.new ≡ (taken_by MOST_TAKES event.now machine.old).machine) }
     ensures text { OnOk result
         (out.new.items
         ≡ out.old.items
         ++ taken_line (taken_by MOST_TAKES event.now machine.old).refusal (taken_by MOST_TAKES event.now machine.old).text) }
+    ensures end { IfOk result (λ end. end ≡ behind (taken_by MOST_TAKES event.now machine.old).refusal) }
 {
     let mut text = ArrayVec::new();
     let refusal = take_characters(machine, event, &mut text);
-    push_taken(out, refusal, text.as_slice())
+    push_taken(out, refusal, text.as_slice())?;
+    Ok(LineEnd::behind(refusal))
 }

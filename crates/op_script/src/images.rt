@@ -2,8 +2,8 @@
 ghost use Rattle.std.specs.Prelude.{◌≡◌, [], OnOk, IfSome, option_map};
 ghost use Rattle.op_script.specs.Images.{assembled_in, image_of, with_image};
 
-use crate::names::ImageName;
 use indexmap::IndexMap;
+use run_commands::ImageName;
 use std::alloc::{AllocError, Global};
 use std::marker::Model;
 use word36::Image;

@@ -1,19 +1,18 @@
 //! Scripts on the machine, and their transcripts: the language of `lockmon run`.
 #![tactic(auto)]
 
-mod commands;
 mod events;
+mod heads;
 mod images;
-mod names;
+mod line_ends;
 mod printing;
 mod run_scripts;
 mod script_state;
 mod showing;
 mod sources;
-mod texts;
 
-pub use commands::{MOST_ADDRESS, MOST_EVENTS, MOST_NUMBER, is_command};
+pub use heads::{OtherMachine, head_of};
+pub use line_ends::{LineEnd, Undone};
 pub use monitor::Config;
-pub use names::NAME_LENGTH;
-pub use run_scripts::{RunService, serve};
-pub use script_state::Machine;
+pub use run_scripts::{obey, serve};
+pub use script_state::{Machine, RunState, ScriptState};

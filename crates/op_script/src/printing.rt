@@ -4,11 +4,10 @@ ghost use Rattle.word36.specs.Octal.{octal};
 ghost use Rattle.op_script.specs.Printing.{refused_line, number_line, text_line, answer_line, ran_line, done_line, taken_line, image_line};
 ghost use Rattle.op_script.specs.Printing.{limit_text, wait_text, standing_text, job_line, address_line, word_line};
 
-use crate::names::ImageName;
-use crate::texts::push_text;
 use job_sched::{Stop, Wait};
 use ka_isa::text_of;
 use machine::{Answer, JobView, RefusedEvent};
+use run_commands::{ImageName, push_text};
 use script_io::{push_decimal, push_word};
 use std::alloc::AllocError;
 use tty_lines::Char7;

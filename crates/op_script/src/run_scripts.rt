@@ -4,15 +4,15 @@ ghost use Rattle.mac_asm.specs.Outcome.{outcome_of};
 ghost use Rattle.script_io.specs.Serves.{Serves, Blames};
 ghost use Rattle.script_io.specs.Endings.{script_fault, served_as};
 ghost use Rattle.op_script.specs.Images.{image_of};
-ghost use Rattle.op_script.specs.RunScripts.{effect_of, login_effect, defined, assembled_text, assembled_ending, source_effect};
-ghost use Rattle.op_script.specs.RunScripts.{line_effect, fresh, transcript_of, transcript};
+ghost use Rattle.op_script.specs.RunScripts.{effect_of, end_of, login_effect, defined, assembled_text, assembled_ending, source_effect};
+ghost use Rattle.op_script.specs.RunScripts.{line_effect, transcript_of, transcript};
+ghost use Rattle.op_script.specs.Undone.{ended_by};
 
-use crate::commands::{Command, read_command};
 use crate::events::{happen, happen_often, step, take_text, type_text};
 use crate::images::Images;
-use crate::names::ImageName;
+use crate::line_ends::LineEnd;
 use crate::printing::push_image;
-use crate::script_state::{Machine, ScriptState};
+use crate::script_state::ScriptState;
 use crate::showing::{push_data_word, push_examined, push_jobs, push_locks, push_waiting};
 use crate::sources::Source;
 use asm_script::{push_asm_fault, source_ending};
@@ -21,6 +21,7 @@ use lock_queue::LockTable;
 use lock_table::ProgramTable;
 use mac_asm::{AsmError, assemble};
 use monitor::{Config, Event};
+use run_commands::{Command, ImageName, read_command};
 use script_io::{
     ByteIn, ByteOut, Ending, LineService, LineSession, ServeError, is_allowed, push_fault,
     serve_script,
@@ -29,12 +30,12 @@ use std::alloc::{AllocError, Global};
 use word36::TAKEN_AT_ONCE;
 
 /// Adds `?SCRIPT n`, and ends the script there.
-fn end_at_fault(number: u128, out: &mut Vec<u8>) -> Result<Option<Ending>, AllocError>
+fn end_at_fault(number: u128, out: &mut Vec<u8>) -> Result<LineEnd, AllocError>
     ensures text { OnOk result (out.new.items ≡ out.old.items ++ (script_fault number).text) }
-    ensures ending { IfOk result (λ ending. ending ≡ Some (Ending.Script number)) }
+    ensures end { IfOk result (λ end. end ≡ ended_by (Some (Ending.Script number))) }
 {
     push_fault(out, number)?;
-    Ok(Some(Ending::Script(number)))
+    Ok(LineEnd::of(Some(Ending::Script(number))))
 }
 
 /// Logs a job in at a line, with the image of a name; a script fault if there is no such image.
@@ -44,38 +45,44 @@ fn login<L: LockTable, C: CoreStore>(
     line: u8,
     name: &ImageName,
     out: &mut Vec<u8>,
-) -> Result<Option<Ending>, AllocError>
+) -> Result<LineEnd, AllocError>
     ensures state { OnOk result (state.new ≡ (login_effect number state.old line (image_of state.old.images name.now)).state) }
     ensures text { OnOk result (out.new.items
         ≡ out.old.items ++ (login_effect number state.old line (image_of state.old.images name.now)).text) }
-    ensures ending { IfOk result (λ ending. ending ≡ (login_effect number state.old line (image_of state.old.images name.now)).ending) }
+    ensures end { IfOk result (λ end. end ≡ end_of (login_effect number state.old line (image_of state.old.images name.now))) }
 {
-    let Some(image) = state.images.get(name) else {
-        return end_at_fault(number, out);
-    };
-    happen(&mut state.machine, &Event::Login(line, image), out)?;
-    Ok(None)
+    match state.images.get(name) {
+        Some(image) => happen(&mut state.machine, &Event::Login(line, image), out),
+        None => end_at_fault(number, out),
+    }
 }
 
-/// Carries out a line's command, and adds its output. Returns an ending if the script ends there.
+/// Carries out a line's command, and adds its output.
 fn perform<L: LockTable, C: CoreStore>(
     alloc: Global,
     state: &mut ScriptState<L, C>,
     number: u128,
     command: Option<Command>,
     out: &mut Vec<u8>,
-) -> Result<Option<Ending>, AllocError>
+) -> Result<LineEnd, AllocError>
     ensures state { OnOk result (state.new ≡ (effect_of number state.old command).state) }
     ensures text { OnOk result (out.new.items ≡ out.old.items ++ (effect_of number state.old command).text) }
-    ensures ending { IfOk result (λ ending. ending ≡ (effect_of number state.old command).ending) }
+    ensures end { IfOk result (λ end. end ≡ end_of (effect_of number state.old command)) }
 {
     let Some(command) = command else {
         return end_at_fault(number, out);
     };
     let machine = &mut state.machine;
     let done = match command {
-        Command::Quit => return Ok(Some(Ending::Done)),
+        Command::Quit => return Ok(LineEnd::of(Some(Ending::Done))),
         Command::Login(line, name) => return login(state, number, line, &name, out),
+        Command::Start(job) => return happen(machine, &Event::Start(job), out),
+        Command::Continue(job) => return happen(machine, &Event::Continue(job), out),
+        Command::Kill(job) => return happen(machine, &Event::Kill(job), out),
+        Command::Restart => return happen(machine, &Event::Restart, out),
+        Command::Typed(line, text) => return type_text(machine, line, &text, out),
+        Command::Take(line) => return take_text(machine, &Event::Take(line, TAKEN_AT_ONCE), out),
+        Command::Examine(job, address) => return push_examined(out, machine, job, address),
         Command::Nothing => Ok(()),
         Command::Assemble(name) => {
             state.source = Some(Source::new(alloc, name, number));
@@ -84,20 +91,13 @@ fn perform<L: LockTable, C: CoreStore>(
         Command::Step(most) => step(machine, most, false, out),
         Command::Run(most) => step(machine, most, true, out),
         Command::Tick(ticks) => happen_often(machine, &Event::Tick, ticks, out),
-        Command::Typed(line, text) => type_text(machine, line, &text, out),
-        Command::Take(line) => take_text(machine, &Event::Take(line, TAKEN_AT_ONCE), out),
-        Command::Start(job) => happen(machine, &Event::Start(job), out),
-        Command::Continue(job) => happen(machine, &Event::Continue(job), out),
-        Command::Kill(job) => happen(machine, &Event::Kill(job), out),
-        Command::Restart => happen(machine, &Event::Restart, out),
         Command::ShowJobs => push_jobs(out, machine),
         Command::ShowLocks => push_locks(out, machine),
         Command::ShowWaits => push_waiting(out, machine),
-        Command::Examine(job, address) => push_examined(out, machine, job, address),
         Command::Data(i) => push_data_word(out, machine, i),
     };
     done?;
-    Ok(None)
+    Ok(LineEnd::of(None))
 }
 
 /// Assembles a whole source: keeps its image, or adds its fault and ends the script.
@@ -147,54 +147,35 @@ fn take_source_line<L: LockTable, C: CoreStore>(
     Ok(None)
 }
 
-/// Takes a line: a command, or a line of a source. Adds its output, and returns an ending if the script ends there.
-fn obey<L: LockTable, C: CoreStore>(
+/// Takes a line: a command, or a line of a source. Adds its output. If memory runs out, the state means nothing.
+pub fn obey<L: LockTable, C: CoreStore>(
     alloc: Global,
     state: &mut ScriptState<L, C>,
     number: u128,
     line: &[u8],
     out: &mut Vec<u8>,
-) -> Result<Option<Ending>, AllocError>
+) -> Result<LineEnd, AllocError>
     ensures state { OnOk result (state.new ≡ (line_effect number state.old line.now).state) }
     ensures text { OnOk result (out.new.items ≡ out.old.items ++ (line_effect number state.old line.now).text) }
-    ensures ending { IfOk result (λ ending. ending ≡ (line_effect number state.old line.now).ending) }
+    ensures end { IfOk result (λ end. end ≡ end_of (line_effect number state.old line.now)) }
 {
     if !is_allowed(line) {
         return end_at_fault(number, out);
     }
     match state.source.take() {
-        Some(source) => take_source_line(alloc, state, source, line, out),
+        Some(source) => {
+            let ending = take_source_line(alloc, state, source, line, out)?;
+            Ok(LineEnd::of(ending))
+        }
         None => perform(alloc, state, number, read_command(line), out),
     }
 }
 
 /// A machine that a script's lines work on.
 #[derive(Drop)]
-pub struct RunService {
+struct RunService {
     alloc: Global,
     state: ScriptState<ProgramTable, BlockCore>,
-}
-
-impl RunService {
-    /// The service over a machine from a fresh boot, with the blocks and the quantum of a `Config`.
-    pub fn new(alloc: Global, config: Config) -> Result<Self, AllocError>
-        ensures { IfOk result (λ s. s.state ≡ fresh config.blocks config.quantum) }
-    {
-        let machine = Machine::boot(alloc, config)?;
-        let state = ScriptState {
-            machine,
-            images: Images::new(alloc),
-            source: None,
-        };
-        Ok(RunService { alloc, state })
-    }
-
-    /// The machine behind the lines taken so far.
-    pub fn machine(&self) -> &Machine
-        ensures { result.now ≡ self.now.state.machine }
-    {
-        &self.state.machine
-    }
 }
 
 impl LineService for RunService {
@@ -208,7 +189,8 @@ impl LineService for RunService {
         line: &[u8],
         out: &mut Vec<u8>,
     ) -> Result<Option<Ending>, AllocError> {
-        obey(self.alloc, &mut self.state, number, line, out)
+        let end = obey(self.alloc, &mut self.state, number, line, out)?;
+        Ok(end.ending)
     }
 
     fn refuse_line(&mut self, number: u128, out: &mut Vec<u8>) -> Result<Ending, AllocError> {
@@ -241,10 +223,11 @@ pub fn serve<R: ByteIn, W: ByteOut>(
         (W.written writer.old) (W.written writer.new) (served_as result) }
     ensures blames { IfErr (served_as result) (λ e. Blames e (R.has_failed reader.new) (W.has_failed writer.new)) }
 {
-    let service = match RunService::new(alloc, config) {
-        Ok(service) => service,
+    let state = match ScriptState::fresh(alloc, config) {
+        Ok(state) => state,
         Err(_) => return Err(ServeError::Memory),
     };
+    let service = RunService { alloc, state };
     let mut session = LineSession::new(service);
     serve_script(alloc, &mut session, reader, writer)
 }

@@ -1,11 +1,13 @@
 //! SHOW, EXAMINE and DATA: commands that show the machine.
-ghost use Rattle.std.specs.Prelude.{◌≡◌, ◌++◌, OnOk, slice_index};
+ghost use Rattle.std.specs.Prelude.{◌≡◌, ◌++◌, IfOk, OnOk, slice_index};
 ghost use Rattle.queue_script.specs.QueueScripts.{show_text};
 ghost use Rattle.queue_script.specs.WaitPairs.{waits_text};
 ghost use Rattle.machine.specs.Views.{job_view};
 ghost use Rattle.op_script.specs.Printing.{job_line, word_line};
 ghost use Rattle.op_script.specs.RunScripts.{jobs_text, examined_text};
+ghost use Rattle.op_script.specs.Undone.{going_on, unexamined};
 
+use crate::line_ends::{LineEnd, Undone};
 use crate::printing::{push_address, push_job, push_refused, push_word_line};
 use core_store::CoreStore;
 use lock_queue::LockTable;
@@ -69,13 +71,25 @@ pub fn push_examined<L: LockTable, C: CoreStore>(
     machine: &System<L, C>,
     job: u8,
     address: u32,
-) -> Result<(), AllocError>
-    ensures { OnOk result (out.new.items ≡ out.old.items ++ examined_text machine.now job address) }
+) -> Result<LineEnd, AllocError>
+    ensures text { OnOk result (out.new.items ≡ out.old.items ++ examined_text machine.now job address) }
+    ensures end { IfOk result (λ end. end ≡ going_on (unexamined machine.now job address)) }
 {
     if machine.job(job).is_none() {
-        return push_refused(out, RefusedEvent::NoSuchJob);
+        push_refused(out, RefusedEvent::NoSuchJob)?;
+        return Ok(LineEnd::behind(Some(RefusedEvent::NoSuchJob)));
     }
-    push_address(out, address, machine.peek(job, address))
+    let word = machine.peek(job, address);
+    push_address(out, address, word)?;
+    let undone = if word.is_some() {
+        None
+    } else {
+        Some(Undone::NoWord)
+    };
+    Ok(LineEnd {
+        ending: None,
+        undone,
+    })
 }
 
 /// Adds a word that all jobs share.

@@ -2,7 +2,7 @@
 ghost use Rattle.std.specs.Prelude.{◌≡◌, ◌++◌, OnOk};
 ghost use Rattle.op_script.specs.Sources.{empty_source, with_line};
 
-use crate::names::ImageName;
+use run_commands::ImageName;
 use std::alloc::{AllocError, Global};
 use std::marker::Model;
 

@@ -97,7 +97,7 @@ fn answer_of<'a>(
     if !state.faults.is_empty() {
         return Ok(Assembled::Refused(refusal_text(state, source, most)?));
     }
-    let Some(written) = source_of(state)? else {
+    let Some(written) = source_of(state, source.text.as_slice())? else {
         let file = source.file;
         let text = format!(in state.alloc; "{file}: {NOT_READ_BACK}\n")?;
         return Ok(Assembled::Refused(text.into_bytes()));

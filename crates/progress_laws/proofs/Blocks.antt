@@ -7,7 +7,7 @@ use Rattle.std.proofs.lemmas.Grind.{common_steps}
 use Rattle.word36.specs.declared.sizes.TheConstants.{LOCKS_A_CALL}
 use Rattle.word36.specs.Words.{left_half, right_half}
 use Rattle.ka_cpu.proofs.ExecLaws.{by_test}
-use Rattle.ka_cpu.specs.Memory.{are_legal}
+use Rattle.ka_state.specs.Memory.{are_legal}
 use Rattle.lock_queue.specs.declared.key.Key.{Key}
 use Rattle.lock_queue.specs.declared.refusal.Refusal.{Refusal}
 use Rattle.lock_queue.specs.declared.refusal.Refusal.TheVariants.{BadPool, BadBlock, BadCount}

@@ -3,8 +3,8 @@ use Rattle.std.specs.Prelude.{ℕ, Bool, true, false, not, List, if◌then◌els
 use Rattle.std.specs.List.{list_all, list_any}
 use Rattle.job_sched.specs.declared.job.Stop.{Stop}
 use Rattle.job_sched.specs.declared.job.Stop.TheVariants as stop
-use Rattle.ka_cpu.specs.declared.outcome.StopReason.{StopReason}
-use Rattle.ka_cpu.specs.declared.outcome.StopReason.TheVariants as reason
+use Rattle.ka_state.specs.declared.outcome.StopReason.{StopReason}
+use Rattle.ka_state.specs.declared.outcome.StopReason.TheVariants as reason
 use Rattle.run_facts.specs.declared.standing.Cut.{Cut}
 use Rattle.run_facts.specs.declared.standing.Cut.TheVariants as cut
 use Rattle.run_facts.specs.declared.standing.Standing.{Standing}

@@ -5,7 +5,7 @@ ghost use Rattle.run_facts.specs.Ends.{is_at_fault, is_end, has_ended_well, stat
 
 use crate::statuses::{CIRCLE, CUT, DONE, FAULT, REFUSED, UNASKED_CUT};
 use job_sched::{Stop, Wait};
-use ka_cpu::StopReason;
+use ka_state::StopReason;
 
 /// How a job stands at the end of a run.
 #[derive(Clone, Copy, Debug, PartialEq, Eq)]

@@ -4,8 +4,8 @@ use Rattle.job_sched.specs.declared.job.Stop.{Stop}
 use Rattle.job_sched.specs.declared.job.Stop.TheVariants.{Loaded, Exit, Monitor, Typed, Fault}
 use Rattle.job_sched.specs.declared.job.Wait.{Wait}
 use Rattle.job_sched.specs.declared.job.Wait.TheVariants.{Sleep, Char, Line, Room, Queue, None as Nothing}
-use Rattle.ka_cpu.specs.declared.outcome.StopReason.{StopReason}
-use Rattle.ka_cpu.specs.declared.outcome.StopReason.TheVariants.{IllegalAddress, IllegalInstruction, Halt, Pushdown, AddressChain}
+use Rattle.ka_state.specs.declared.outcome.StopReason.{StopReason}
+use Rattle.ka_state.specs.declared.outcome.StopReason.TheVariants.{IllegalAddress, IllegalInstruction, Halt, Pushdown, AddressChain}
 use Rattle.lock_queue.specs.declared.request.Request.{Request}
 use Rattle.machine.specs.declared.view.JobView.{JobView}
 use Rattle.run_facts.specs.declared.standing.Standing.{Standing}

@@ -17,6 +17,7 @@ use Rattle.lock_queue.specs.declared.request.EnqueueKind.TheVariants.{Blocking, 
 use Rattle.lock_queue.specs.declared.request.Request.{Request}
 use Rattle.lock_queue.specs.declared.want.Want.{Want}
 use Rattle.call_block.specs.declared.block.Block.{Block}
+use Rattle.queue_script.specs.Printing.{name_text}
 use Rattle.uuo_calls.specs.Asked.{ReadBlock}
 use Rattle.uuo_calls.specs.declared.asked.LockService.{LockService}
 use Rattle.run_facts.specs.Grants.{is_left_of}
@@ -24,7 +25,7 @@ use Rattle.run_events.specs.declared.facts.Called.{Called}
 use Rattle.run_events.specs.declared.facts.Fact.{Fact}
 use Rattle.run_events.specs.declared.facts.Fact.TheVariants as fact
 use Rattle.run_notes.specs.FactWords.{stays}
-use Rattle.run_notes.specs.Words.{IsWaitText, name_words, wants_words}
+use Rattle.run_notes.specs.Words.{IsWaitText, wants_words}
 use Rattle.run_notes.specs.declared.lock_rows.Count.{Count}
 use Rattle.run_notes.specs.declared.lock_rows.Count.TheVariants.{Asked, Waited}
 use Rattle.run_notes.specs.declared.lock_rows.LockRow.{LockRow}
@@ -195,7 +196,7 @@ mean_tenths row = if row.waited == 0 then 0 else min (row.total * 10) (2 ^ 64 - 
 -- the line on a lock for which so many requests still wait
 abbrev pub row_words : ℕ → LockRow → List ℕ
 row_words waiting row =
-    left_column 20 (name_words row.key.name) ++ (right_column 9 row.requests ++ (right_column 9 row.waited
+    left_column 20 (name_text row.key.name) ++ (right_column 9 row.requests ++ (right_column 9 row.waited
     ++ (right_column 9 row.longest ++ (right_column 7 (mean_tenths row / 10) ++ (codes "."
     ++ (decimal (mean_tenths row % 10) ++ (right_column 15 waiting ++ codes "\n")))))))
 

@@ -1,17 +1,13 @@
 -- Facts of a run in words (this project's profile).
-use Rattle.std.specs.Prelude.{◌≡◌, ◌==◌, ◌++◌, ◌+◌, ◌-◌, ◌<◌, ◌&&◌, nat_le, nat_lt, ℕ, List, [], ◌∷◌, length, take, drop, slice_index_or}
+use Rattle.std.specs.Prelude.{◌≡◌, ◌==◌, ◌++◌, ◌+◌, ◌-◌, ◌<◌, ◌&&◌, nat_lt, ℕ, List, [], ◌∷◌, length, take, drop, slice_index_or}
 use Rattle.std.specs.Prelude.{Option, Some, None, IfSome, false, codes, decimal, if◌then◌else◌}
 use Rattle.std.specs.List.{IsFirstBest, flat_map, list_any}
-use Rattle.word36.specs.Octal.{octal_text}
 use Rattle.lock_queue.specs.Jobs.{waits_for}
 use Rattle.lock_queue.specs.Queue.{chosen, some_behind}
 use Rattle.lock_queue.specs.Waits.{waits_hard_for, jobs as the_jobs}
-use Rattle.lock_queue.specs.declared.name.Name.{Name}
-use Rattle.lock_queue.specs.declared.name.Name.TheVariants.{Text, Code}
 use Rattle.lock_queue.specs.declared.request.Request.{Request}
 use Rattle.lock_queue.specs.declared.want.Want.{Want}
-use Rattle.script_io.specs.Printing.{escaped}
-use Rattle.queue_script.specs.Printing.{group_text, level_text, pool_text, scope_text}
+use Rattle.queue_script.specs.Printing.{name_text, group_text, level_text, pool_text, scope_text}
 use Rattle.wait_graph.specs.LockWaits.{is_kept_from, is_kept_waiting, keepers, want_at, want_kept, want_waited_for, waits_for_owner}
 use Rattle.wait_graph.specs.declared.lock_waits.LockBetween.{LockBetween}
 use Rattle.wait_graph.specs.declared.lock_waits.LockWait.{LockWait}
@@ -25,15 +21,6 @@ limit_words tick job (Some id) =
 limit_words tick job None =
     codes "tick " ++ (decimal tick ++ (codes ", job " ++ (decimal job ++ codes ": time limit ended, code 17 (21 octal)\n")))
 
--- a character of a name: as it is where it prints, else as a backslash and three octal digits
-abbrev pub character_words : ℕ → List ℕ
-character_words c = if nat_le 33 c && nat_le c 126 then c ∷ [] else escaped c
-
--- a lock's name
-abbrev pub name_words : Name → List ℕ
-name_words (Text text) = flat_map character_words text
-name_words (Code code) = codes "#" ++ octal_text code
-
 -- the options of a want, in the order of scripts of `lockmon queue`
 abbrev pub options_words : Want → List ℕ
 options_words w =
@@ -41,7 +28,7 @@ options_words w =
     ++ (level_text w.level ++ (pool_text w.pool ++ scope_text w.key.scope))))
 
 abbrev pub lock_words : Want → List ℕ
-lock_words w = name_words w.key.name ++ options_words w
+lock_words w = name_text w.key.name ++ options_words w
 
 -- each of some locks behind a comma
 abbrev pub want_words : Want → List ℕ
@@ -70,12 +57,12 @@ pub record IsBetween (requests : List Request) (job other : ℕ) (o : Option Loc
 -- what a job of a circle has
 abbrev pub had_words : Option LockBetween → List ℕ
 had_words None = codes "is in front"
-had_words (Some b) = (if b.is_held then codes "has " else codes "is in front for ") ++ name_words b.want.now.key.name
+had_words (Some b) = (if b.is_held then codes "has " else codes "is in front for ") ++ name_text b.want.now.key.name
 
 -- what it waits for
 abbrev pub waited_words : Option LockBetween → List ℕ
 waited_words None = codes "waits for a lock"
-waited_words (Some b) = codes "waits for " ++ name_words b.want.now.key.name
+waited_words (Some b) = codes "waits for " ++ name_text b.want.now.key.name
 
 abbrev pub job_words : ℕ → List ℕ → List ℕ → List ℕ
 job_words job had waited =

@@ -1,6 +1,6 @@
 //! The flags of a job, by their names.
 
-use ka_cpu::Flags;
+use ka_state::Flags;
 use std::fmt;
 
 /// The flags that are set, by the names of the DECsystem-10 Processor Reference Manual: `Overflow, Carry 0`; `none` if no

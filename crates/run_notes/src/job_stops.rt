@@ -3,7 +3,7 @@ ghost use Rattle.std.specs.Prelude.{◌≡◌};
 ghost use Rattle.run_notes.specs.Standings.{stop_words};
 
 use job_sched::Stop;
-use ka_cpu::StopReason;
+use ka_state::StopReason;
 use monitor::RefusedEvent;
 
 /// Why a job is stopped, in words for a person.

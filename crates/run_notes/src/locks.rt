@@ -1,9 +1,10 @@
 //! Locks in words.
 ghost use Rattle.std.specs.Prelude.{◌≡◌, ◌++◌, [], OnOk, if◌then◌else◌, string_bytes};
 ghost use Rattle.std.specs.List.{flat_map};
-ghost use Rattle.queue_script.specs.Printing.{group_text, level_text, pool_text, scope_text};
+ghost use Rattle.queue_script.specs.Locks.{is_name_character};
+ghost use Rattle.queue_script.specs.Printing.{name_character, name_text, group_text, level_text, pool_text, scope_text};
 ghost use Rattle.script_io.specs.Printing.{escaped};
-ghost use Rattle.run_notes.specs.Words.{character_words, lock_words, name_words, options_words};
+ghost use Rattle.run_notes.specs.Words.{lock_words, options_words};
 
 use lock_queue::{Group, Level, Name, Pool, Scope, Want};
 use std::alloc::AllocError;
@@ -20,11 +21,18 @@ fn push_escaped(text: &mut String, byte: u8) -> Result<(), AllocError>
     text.push(char::from(b'0' + byte % 8))
 }
 
-/// Adds a character of a name; one that does not print as a backslash and three octal digits.
-fn push_character(text: &mut String, byte: u8) -> Result<(), AllocError>
-    ensures { OnOk result (string_bytes text.new ≡ string_bytes text.old ++ character_words byte) }
+/// Whether a script can spell a character of a name.
+fn is_name_character(byte: u8) -> bool
+    ensures { result ≡ is_name_character byte }
 {
-    if byte > 32 && byte < 127 {
+    byte.is_ascii_alphanumeric() || byte == b'.' || byte == b'-' || byte == b'_'
+}
+
+/// Adds a character of a name; one that a script cannot spell as a backslash and three octal digits.
+fn push_character(text: &mut String, byte: u8) -> Result<(), AllocError>
+    ensures { OnOk result (string_bytes text.new ≡ string_bytes text.old ++ name_character byte) }
+{
+    if is_name_character(byte) {
         text.push(char::from(byte))
     } else {
         push_escaped(text, byte)
@@ -33,7 +41,7 @@ fn push_character(text: &mut String, byte: u8) -> Result<(), AllocError>
 
 /// Adds the characters of a name.
 fn push_characters(text: &mut String, name: &[u8]) -> Result<(), AllocError>
-    ensures { OnOk result (string_bytes text.new ≡ string_bytes text.old ++ flat_map character_words name.now) }
+    ensures { OnOk result (string_bytes text.new ≡ string_bytes text.old ++ flat_map name_character name.now) }
 {
     for byte in name {
         push_character(text, *byte)?;
@@ -44,7 +52,7 @@ fn push_characters(text: &mut String, name: &[u8]) -> Result<(), AllocError>
 /// Adds a lock's name: its characters, or `#` and its user code in octal.
 #[tactic(auto, using(std::proofs::Common::append_assoc))]
 pub fn push_name(text: &mut String, name: &Name) -> Result<(), AllocError>
-    ensures { OnOk result (string_bytes text.new ≡ string_bytes text.old ++ name_words name.now) }
+    ensures { OnOk result (string_bytes text.new ≡ string_bytes text.old ++ name_text name.now) }
 {
     match name {
         Name::Text(name) => push_characters(text, name.as_str().as_bytes()),

@@ -5,7 +5,7 @@ ghost use Rattle.machine.specs.Next.{effective_in, executed_in};
 ghost use Rattle.machine.specs.Views.{job_view, word_in};
 
 use concrete_machine::Machine;
-use ka_cpu::Flags;
+use ka_state::Flags;
 use word36::{Address, Word};
 
 /// How many registers there are.

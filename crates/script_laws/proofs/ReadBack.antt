@@ -6,9 +6,9 @@ use Rattle.std.proofs.lemmas.Bool.{ne_eqb}
 use Rattle.std.proofs.lemmas.List.{map-append}
 use Rattle.script_io.specs.Lines.{is_silent}
 use Rattle.script_io.specs.Numbers.{number, parts}
-use Rattle.op_script.specs.Commands.{command_of, command_of_items}
-use Rattle.op_script.specs.declared.commands.Command.{Command}
-use Rattle.op_script.specs.declared.commands.Command.TheVariants as command
+use Rattle.run_commands.specs.Commands.{command_of, command_of_items}
+use Rattle.run_commands.specs.declared.commands.Command.{Command}
+use Rattle.run_commands.specs.declared.commands.Command.TheVariants as command
 use Rattle.run_record.specs.Scripts.{lines_of, counted, run_lines, step_lines}
 use Rattle.script_laws.specs.ReadBack.{commands_of, run_commands, step_commands, IsPlain, ReadsBack}
 use Rattle.run_record.specs.declared.pieces.Piece.{Piece}

@@ -7,7 +7,7 @@ use Rattle.std.proofs.Common.{inl, inr}
 use Rattle.std.proofs.lemmas.List.Elements.{All-head, All-tail}
 use Rattle.std.specs.Prelude.{option_map, option_and_then, All}
 use Rattle.script_io.specs.Printing.{escaped}
-use Rattle.op_script.specs.Texts.{characters_of, spelled_behind, octal_value, first_spelled, spells}
+use Rattle.run_commands.specs.Texts.{characters_of, spelled_behind, octal_value, first_spelled, spells}
 use Rattle.script_io.specs.Printing.{printed, printed_character}
 
 -- a text with this in front of it is read with this character in front

@@ -1,8 +1,8 @@
 -- The lines of a run as `lockmon run` reads them (this project's profile).
 use Rattle.std.specs.Prelude.{◌≡◌, ◌==◌, ◌≤◌, ℕ, Bool, List, [], ◌∷◌, ◌++◌, Some, map, if◌then◌else◌}
-use Rattle.op_script.specs.Commands.{command_of}
-use Rattle.op_script.specs.declared.commands.Command.{Command}
-use Rattle.op_script.specs.declared.commands.Command.TheVariants as command
+use Rattle.run_commands.specs.Commands.{command_of}
+use Rattle.run_commands.specs.declared.commands.Command.{Command}
+use Rattle.run_commands.specs.declared.commands.Command.TheVariants as command
 use Rattle.run_record.specs.Scripts.{lines_of, program_name}
 use Rattle.run_record.specs.declared.pieces.Piece.{Piece}
 use Rattle.run_record.specs.declared.pieces.Piece.TheVariants as piece

@@ -2,7 +2,7 @@
 ghost use Rattle.std.specs.Prelude.{◌≡◌};
 ghost use Rattle.job_sched.specs.Stops.{code_of as stop_code};
 ghost use Rattle.job_sched.specs.declared.job.Stop.TheVariants as stop;
-ghost use Rattle.ka_cpu.specs.declared.outcome.StopReason.TheVariants as reason;
+ghost use Rattle.ka_state.specs.declared.outcome.StopReason.TheVariants as reason;
 ghost use Rattle.lock_queue.specs.Refusals.{code_of as lock_code};
 ghost use Rattle.lock_queue.specs.declared.refusal.Refusal.TheVariants as lock;
 ghost use Rattle.mac_layout.specs.Faults.{number_of as fault_code};

@@ -3,9 +3,9 @@ ghost use Rattle.std.specs.Prelude.{◌≡◌, ◌^◌, ◌-◌, ◌<◌, ℕ, L
 ghost use Rattle.program_shell.specs.declared.statuses.TheConstants.{DONE, FAILED, REFUSED, USAGE};
 ghost use Rattle.mac_layout.specs.declared.addresses.TheConstants.{FIRST, MEMORY_SIZE};
 ghost use Rattle.mac_text.specs.declared.symbol.TheConstants.{NAME_CHARACTERS};
-ghost use Rattle.op_script.specs.Texts.{characters_of};
-ghost use Rattle.op_script.specs.declared.commands.TheConstants.{MOST_ADDRESS, MOST_EVENTS};
-ghost use Rattle.op_script.specs.declared.names.TheConstants.{NAME_LENGTH};
+ghost use Rattle.run_commands.specs.Texts.{characters_of};
+ghost use Rattle.run_commands.specs.declared.commands.TheConstants.{MOST_ADDRESS, MOST_EVENTS};
+ghost use Rattle.run_commands.specs.declared.names.TheConstants.{NAME_LENGTH};
 ghost use Rattle.queue_script.specs.declared.call_room.TheConstants.{QUOTA};
 ghost use Rattle.queue_script.specs.declared.locks.TheConstants.{CODE_DIGITS, MOST_CODE};
 ghost use Rattle.queue_script.specs.declared.options.TheConstants.{MOST_HALF, MOST_LEVEL};

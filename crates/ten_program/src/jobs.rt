@@ -3,7 +3,7 @@
 use crate::terminal::Terminal;
 use concrete_machine::Machine;
 use job_sched::{Stop, Wait};
-use ka_cpu::StopReason;
+use ka_state::StopReason;
 use program_shell::PendingText;
 use run_facts::Standing;
 use run_notes::{IllegalText, TracedJob, snapshot_of, standing_text};

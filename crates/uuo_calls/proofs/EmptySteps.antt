@@ -2,7 +2,7 @@
 use Rattle.std.proofs.Common.{◌≡◌, ◌≤◌, ◌∙◌, sym, ap, subst, ℕ, ◌⊎◌, inl, inr, Bool, true, false, List, []}
 use Rattle.std.proofs.Common.{◌++◌, length, Option, Some, None, refl, nat_le, arith}
 use Rattle.std.proofs.lemmas.Bool.Decides.{nat_tests}
-use Rattle.ka_cpu.specs.Memory.{is_legal, word_below}
+use Rattle.ka_state.specs.Memory.{is_legal, word_below}
 use Rattle.core_store.specs.Cores.{Cores, core_of, with_core}
 use Rattle.tty_lines.specs.Rings.{input_of, output_of, room_of, with_output}
 use Rattle.word36.specs.declared.sizes.TheConstants.{OUTPUT_RING}

@@ -2,7 +2,7 @@
 use Rattle.std.proofs.Common.{◌≡◌, ◌≢◌, ◌∙◌, sym, ap, subst, ℕ, ◌+◌, ◌==◌, Bool, true, false, List, [], length}
 use Rattle.std.proofs.Common.{Option, Some, None, slice_index_or, slice_set, refl, nat_le}
 use Rattle.std.proofs.lemmas.List.{get_or-set_other}
-use Rattle.ka_cpu.specs.Memory.{is_legal, word_below}
+use Rattle.ka_state.specs.Memory.{is_legal, word_below}
 use Rattle.core_store.specs.Cores.{Cores, blocks_of, core_of, resized, with_core}
 use Rattle.tty_lines.specs.Rings.{Rings, input_of, no_characters, room_of}
 use Rattle.word36.specs.declared.sizes.TheConstants.{OUTPUT_RING}

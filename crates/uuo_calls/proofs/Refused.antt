@@ -6,7 +6,7 @@ use Rattle.std.specs.List.{list_any}
 use Rattle.std.proofs.lemmas.Bool.Decides.{nat_tests}
 use Rattle.std.proofs.lemmas.List.{get_or-set_same}
 use Rattle.arrayvec.specs.ArrayVec.{ArrayVec}
-use Rattle.ka_cpu.specs.Memory.{are_legal}
+use Rattle.ka_state.specs.Memory.{are_legal}
 use Rattle.word36.specs.declared.sizes.TheConstants.{DATA_WORDS}
 use Rattle.word36.specs.Words.{left_half, right_half}
 use Rattle.core_store.specs.Cores.{Cores, core_of, with_core}

@@ -1,7 +1,7 @@
 -- Steps along a text.
 use Rattle.std.proofs.Common.{Bool, true, false, ◌≡◌, ◌≢◌, ◌<◌, ℕ, zero, suc, ◌+◌, ◌/◌, ◌%◌, List, [], ◌∷◌, ◌++◌, length, Some, None, refl, arith}
 use Rattle.std.proofs.lemmas.Grind.{common_steps}
-use Rattle.ka_cpu.specs.Memory.{word_below}
+use Rattle.ka_state.specs.Memory.{word_below}
 use Rattle.uuo_calls.specs.TerminalRows.{character, behind, text_from}
 
 -- where whole words have given so many characters, the next five stand in one word

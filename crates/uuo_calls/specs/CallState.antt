@@ -1,7 +1,7 @@
 -- What a call of one job reads and changes, and the words of its row (this project's profile).
 use Rattle.std.specs.Prelude.{ℕ, ◌+◌, ◌%◌, ◌^◌, List, Option, Some, slice_index, slice_set}
 use Rattle.core_store.specs.Cores.{Cores}
-use Rattle.ka_cpu.specs.declared.outcome.StopReason.{StopReason}
+use Rattle.ka_state.specs.declared.outcome.StopReason.{StopReason}
 use Rattle.lock_queue.specs.declared.request.Request.{Request}
 use Rattle.tty_lines.specs.Rings.{Rings}
 use Rattle.job_sched.specs.declared.job.Job.{Job}

@@ -2,9 +2,9 @@
 use Rattle.std.specs.Prelude.{ℕ, ◌+◌, ◌==◌, nat_le, Bool, false, is_none, if◌then◌else◌, List, Option, Some, None}
 use Rattle.word36.specs.Words.{right_half}
 use Rattle.core_store.specs.Cores.{core_of}
-use Rattle.ka_cpu.specs.Jumps.{flags_of}
-use Rattle.ka_cpu.specs.Memory.{are_legal, word_below}
-use Rattle.ka_cpu.specs.declared.outcome.StopReason.TheVariants.{IllegalAddress}
+use Rattle.ka_state.specs.Registers.{flags_of}
+use Rattle.ka_state.specs.Memory.{are_legal, word_below}
+use Rattle.ka_state.specs.declared.outcome.StopReason.TheVariants.{IllegalAddress}
 use Rattle.job_sched.specs.declared.job.Interrupts.{Interrupts}
 use Rattle.job_sched.specs.declared.job.Job.{Job}
 use Rattle.uuo_calls.specs.CallState.{CallState, ac_of, skipping, refusing, stopped_at}

@@ -1,6 +1,6 @@
 -- What each monitor call does (TOPS-10 Monitor Calls Manual, in this project's profile).
 use Rattle.std.specs.Prelude.{ℕ, List, Option, Some, None}
-use Rattle.ka_cpu.specs.declared.outcome.StopReason.TheVariants.{IllegalInstruction}
+use Rattle.ka_state.specs.declared.outcome.StopReason.TheVariants.{IllegalInstruction}
 use Rattle.core_store.specs.Cores.{Cores, given}
 use Rattle.lock_queue.specs.declared.request.Request.{Request}
 use Rattle.lock_queue.specs.Jobs.{released}

@@ -1,7 +1,7 @@
 -- The table of monitor calls (TOPS-10 Monitor Calls Manual; the numbers that it does not list are this project's profile).
 use Rattle.std.specs.Prelude.{ℕ, ◌==◌, true, false, if◌then◌else◌}
-use Rattle.ka_cpu.specs.declared.outcome.CallKind.{CallKind}
-use Rattle.ka_cpu.specs.declared.outcome.CallKind.TheVariants.{Calli, Ttcall}
+use Rattle.ka_state.specs.declared.outcome.CallKind.{CallKind}
+use Rattle.ka_state.specs.declared.outcome.CallKind.TheVariants.{Calli, Ttcall}
 use Rattle.uuo_calls.specs.declared.service.Awaited.TheVariants as awaited
 use Rattle.uuo_calls.specs.declared.service.Service.{Service}
 use Rattle.uuo_calls.specs.declared.service.Service.TheVariants.{Reset, Core, Exit, Monrt, Logout, Mstime, Pjob, Sleep, Piini, Pisys, Debrk}

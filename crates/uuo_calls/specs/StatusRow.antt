@@ -3,8 +3,8 @@ use Rattle.std.specs.Prelude.{ℕ, ◌+◌, ◌*◌, ◌%◌, ◌==◌, if◌the
 use Rattle.std.specs.List.{flat_map}
 use Rattle.word36.specs.Words.{left_half, right_half}
 use Rattle.core_store.specs.Cores.{Cores, core_of, with_core}
-use Rattle.ka_cpu.specs.Memory.{ac_with, are_legal, core_with}
-use Rattle.ka_cpu.specs.declared.registers.Regs.{Regs}
+use Rattle.ka_state.specs.Memory.{ac_with, are_legal, core_with}
+use Rattle.ka_state.specs.declared.registers.Regs.{Regs}
 use Rattle.lock_queue.specs.declared.refusal.Refusal.{Refusal}
 use Rattle.lock_queue.specs.declared.refusal.Refusal.TheVariants.{NoFunction, BadBlock}
 use Rattle.lock_queue.specs.declared.request.Request.{Request}

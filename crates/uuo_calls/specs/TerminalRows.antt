@@ -1,8 +1,8 @@
 -- The TTCALL functions (TOPS-10 Monitor Calls Manual; the limit, and that a text goes out as a whole, are this project's profile).
 use Rattle.std.specs.Prelude.{ℕ, ◌≡◌, suc, zero, ◌+◌, ◌-◌, ◌*◌, ◌/◌, ◌%◌, ◌^◌, ◌==◌, nat_lt, nat_le, Bool, drop, unwrap_or}
 use Rattle.std.specs.Prelude.{slice_get, if◌then◌else◌, List, [], ◌∷◌, ◌++◌, length, Option, Some, None}
-use Rattle.ka_cpu.specs.Memory.{word_below, is_legal, ac_with, core_with}
-use Rattle.ka_cpu.specs.declared.outcome.StopReason.TheVariants.{IllegalAddress}
+use Rattle.ka_state.specs.Memory.{word_below, is_legal, ac_with, core_with}
+use Rattle.ka_state.specs.declared.outcome.StopReason.TheVariants.{IllegalAddress}
 use Rattle.core_store.specs.Cores.{core_of, with_core}
 use Rattle.tty_lines.specs.Rings.{Rings, input_of, output_of, room_of, with_input, with_output, holds_line}
 use Rattle.word36.specs.declared.sizes.TheConstants.{OUTPUT_RING}

@@ -11,7 +11,7 @@ use crate::service::{Service, service_of};
 use call_block::{Block, BlockHead, fill_block};
 use core_store::CoreStore;
 use job_sched::{Job, JobTable};
-use ka_cpu::{Accumulator, CoreWords, ReadMemory, Regs};
+use ka_state::{Accumulator, CoreWords, ReadMemory, Regs};
 use lock_queue::{BlockUse, Refusal, Wants};
 use std::marker::Model;
 use word36::{Address, Word};

@@ -8,7 +8,7 @@ ghost use Rattle.call_block.specs.Blocks.{block_at, read_as};
 ghost use Rattle.uuo_calls.specs.LockRows.{AreAskable};
 
 use call_block::{BlockHead, fill_block};
-use ka_cpu::{JobMemory, Regs};
+use ka_state::{JobMemory, Regs};
 use lock_queue::{BlockUse, Refusal, Wants};
 use word36::Address;
 

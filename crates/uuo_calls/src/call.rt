@@ -1,6 +1,6 @@
 //! A monitor call, and how it ends.
 
-use ka_cpu::{Accumulator, CallKind};
+use ka_state::{Accumulator, CallKind};
 use lock_queue::LockReply;
 use word36::Address;
 

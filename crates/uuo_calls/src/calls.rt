@@ -28,7 +28,7 @@ use crate::room::CallRoom;
 use crate::service::{Service, service_of};
 use core_store::CoreStore;
 use job_sched::{Job, JobTable, Stop, TimeOfDay};
-use ka_cpu::{Accumulator, StopReason};
+use ka_state::{Accumulator, StopReason};
 use lock_queue::{LockReply, LockTable};
 use tty_lines::Lines;
 use word36::{Address, DATA_WORDS, Word};

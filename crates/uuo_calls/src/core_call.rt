@@ -9,7 +9,7 @@ ghost use Rattle.uuo_calls.specs.CoreRow.{blocks_asked, with_highest, grown, cor
 use crate::returns::skip;
 use core_store::CoreStore;
 use job_sched::Job;
-use ka_cpu::Accumulator;
+use ka_state::Accumulator;
 use word36::{BLOCK_WORDS, MOST_BLOCKS, Word};
 
 /// .JBREL, location 44 octal of a job's core, which holds its highest legal address (TOPS-10

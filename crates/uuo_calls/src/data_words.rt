@@ -6,7 +6,7 @@ ghost use Rattle.uuo_calls.specs.DataRows.{datrd, datwr};
 
 use crate::returns::{refuse, skip};
 use job_sched::Job;
-use ka_cpu::Accumulator;
+use ka_state::Accumulator;
 use word36::{DATA_WORDS, Word};
 
 /// The code for an index that no shared word has.

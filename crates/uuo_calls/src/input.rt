@@ -10,7 +10,7 @@ use crate::returns::{skip, stop_at, wait_again};
 use crate::service::Awaited;
 use core_store::CoreStore;
 use job_sched::{Job, Wait};
-use ka_cpu::{CoreWords, JobMemory, StopReason, is_legal_kept, store};
+use ka_state::{CoreWords, JobMemory, StopReason, is_legal_kept, store};
 use tty_lines::Lines;
 use word36::{Address, Word};
 

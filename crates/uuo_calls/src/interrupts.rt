@@ -7,7 +7,7 @@ ghost use Rattle.uuo_calls.specs.InterruptRows.{debrk, dismissed, piini, pisys};
 use crate::returns::{refuse, skip, stop_at};
 use core_store::CoreStore;
 use job_sched::{Interrupts, Job};
-use ka_cpu::{Accumulator, CoreWords, StopReason, are_legal_kept, flags_of, word_kept};
+use ka_state::{Accumulator, CoreWords, StopReason, are_legal_kept, flags_of, word_kept};
 use word36::{Address, Word};
 
 /// How many words a vector has.

@@ -11,7 +11,7 @@ ghost use Rattle.uuo_calls.specs.CallState.{ac_of, with_ac, waiting};
 ghost use Rattle.uuo_calls.specs.JobRows.{calm, ticks_of};
 
 use job_sched::{Job, NO_INTERRUPTS, Stop, TICKS_A_SECOND, TimeOfDay, Wait};
-use ka_cpu::Accumulator;
+use ka_state::Accumulator;
 use lock_queue::LockTable;
 use word36::Word;
 

@@ -14,7 +14,7 @@ use crate::returns::{refuse, skip};
 use crate::room::{CallRoom, make_changing, make_entering, make_naming};
 use core_store::CoreStore;
 use job_sched::{Job, Wait};
-use ka_cpu::{Accumulator, CoreWords, JobMemory, Regs};
+use ka_state::{Accumulator, CoreWords, JobMemory, Regs};
 use lock_queue::{BlockUse, EnqueueKind, LockCall, LockReply, LockTable, Refusal, RequestId};
 use word36::{Address, Word};
 

@@ -1,7 +1,7 @@
 //! OUTCHR and OUTSTR.
 
 ghost use Rattle.std.specs.Prelude.{ℕ, List, true, false, ◌≡◌, ◌<◌, ◌≤◌, ◌+◌, ◌-◌, ◌*◌, ◌/◌, ◌%◌, ◌^◌, ◌∷◌, length, Some, None, []};
-ghost use Rattle.ka_cpu.specs.Memory.{word_below};
+ghost use Rattle.ka_state.specs.Memory.{word_below};
 ghost use Rattle.core_store.specs.Cores.{IsJob, core_of};
 ghost use Rattle.word36.specs.declared.sizes.TheConstants.{OUTPUT_RING};
 ghost use Rattle.uuo_calls.specs.TerminalRows.{TextIs, character, outchr, outstr, put_text, text_from};
@@ -11,7 +11,7 @@ use crate::returns::{stop_at, wait_again};
 use arrayvec::ArrayVec;
 use core_store::CoreStore;
 use job_sched::{Job, Wait};
-use ka_cpu::{CoreWords, JobMemory, Regs, StopReason, word_kept};
+use ka_state::{CoreWords, JobMemory, Regs, StopReason, word_kept};
 use tty_lines::{Char7, Lines};
 use word36::{Address, OUTPUT_RING, Word};
 

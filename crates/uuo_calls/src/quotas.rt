@@ -18,7 +18,7 @@ use crate::service::Service;
 use crate::status::tell_status;
 use core_store::CoreStore;
 use job_sched::Job;
-use ka_cpu::Accumulator;
+use ka_state::Accumulator;
 use lock_queue::{LockReply, LockTable, Refusal};
 use word36::Word;
 

@@ -6,7 +6,7 @@ ghost use Rattle.lock_queue.specs.declared.call.LockReply.TheVariants.{Refused};
 ghost use Rattle.uuo_calls.specs.CallState.{put_back, refusing, skipping, stopped_at, waiting};
 
 use job_sched::{Job, Stop, Wait};
-use ka_cpu::{Accumulator, StopReason};
+use ka_state::{Accumulator, StopReason};
 use lock_queue::{LockReply, Refusal};
 use word36::Word;
 

@@ -3,7 +3,7 @@
 ghost use Rattle.std.specs.Prelude.{◌≡◌};
 ghost use Rattle.uuo_calls.specs.Services.{calli_of, exit_of, service_of, ttcall_of};
 
-use ka_cpu::{Accumulator, CallKind};
+use ka_state::{Accumulator, CallKind};
 use word36::Address;
 
 /// What a program reads from its line.

@@ -15,7 +15,7 @@ use crate::returns::{refused, skip};
 use crate::room::CallRoom;
 use core_store::CoreStore;
 use job_sched::Job;
-use ka_cpu::{Accumulator, CoreWords, JobMemory, Regs, are_legal_kept, store};
+use ka_state::{Accumulator, CoreWords, JobMemory, Regs, are_legal_kept, store};
 use lock_queue::{BlockUse, LockReply, LockTable, Refusal, Want, Wants};
 use word36::{Address, Word};
 

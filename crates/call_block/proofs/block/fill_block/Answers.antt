@@ -1,5 +1,5 @@
 use Rattle.std.proofs.Common.{◌+◌, ◌*◌, arith, sym, ◌∙◌}
-use Rattle.ka_cpu.proofs.LegalLemmas.{legal_within}
+use Rattle.ka_state.proofs.LegalLemmas.{legal_within}
 use Rattle.call_block.proofs.block.fill_block.Goals as goal
 
 pub word-second-requires : goal.word-second-requires

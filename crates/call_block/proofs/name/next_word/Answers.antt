@@ -1,5 +1,5 @@
 use Rattle.std.proofs.Common.{◌∙◌, ap, sym}
-use Rattle.ka_cpu.specs.Memory.{word_at}
+use Rattle.ka_state.specs.Memory.{word_at}
 use Rattle.call_block.proofs.PointerLemmas.{word_here}
 use Rattle.call_block.proofs.name.next_word.Goals as goal
 

@@ -1,7 +1,7 @@
 use Rattle.std.proofs.Common.{ℕ, ◌+◌, sym, ap, ◌∙◌, Some}
 use Rattle.std.proofs.lemmas.List.{length_push}
 use Rattle.word36.specs.Words.{right_half}
-use Rattle.ka_cpu.specs.Memory.{word_at}
+use Rattle.ka_state.specs.Memory.{word_at}
 use Rattle.call_block.proofs.NameLemmas.{more, zero_ends, enough, illegal, character_in}
 use Rattle.call_block.proofs.name.read_characters.Goals as goal
 

@@ -1,7 +1,7 @@
 use Rattle.std.proofs.Common.{◌≡◌, ◌-◌, length, map, ◌++◌, Some}
 use Rattle.word36.specs.Words.{right_half}
 use Rattle.ka_word.specs.Bytes.{size_of}
-use Rattle.ka_cpu.specs.Memory.{word_at}
+use Rattle.ka_state.specs.Memory.{word_at}
 use Rattle.call_block.specs.Names.{characters}
 use Rattle.call_block.proofs.name.read_characters.Given as goal
 

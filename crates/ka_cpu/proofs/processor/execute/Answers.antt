@@ -6,9 +6,9 @@ use Rattle.ka_cpu.specs.Addresses.{address_in, target_of, used_in}
 use Rattle.ka_cpu.specs.Effects.{stopped}
 use Rattle.ka_cpu.specs.Exec.{ac_field, carried_out, is_listed, op_of, word_behind, word_performed}
 use Rattle.ka_cpu.specs.Instructions.{Instruction}
-use Rattle.ka_cpu.specs.declared.registers.Regs.{Regs}
-use Rattle.ka_cpu.specs.declared.outcome.StopReason.{StopReason}
-use Rattle.ka_cpu.specs.declared.outcome.StopReason.TheVariants.{IllegalInstruction}
+use Rattle.ka_state.specs.declared.registers.Regs.{Regs}
+use Rattle.ka_state.specs.declared.outcome.StopReason.{StopReason}
+use Rattle.ka_state.specs.declared.outcome.StopReason.TheVariants.{IllegalInstruction}
 use Rattle.ka_cpu.proofs.Executes.{executed_by, xct_next, xct_refused}
 use Rattle.ka_cpu.proofs.processor.execute.Goals as goal
 

@@ -2,7 +2,7 @@ use Rattle.std.proofs.Common.{◌≡◌, ◌-◌}
 use Rattle.ka_cpu.specs.declared.limits.TheConstants.{MOST_EXECUTES}
 use Rattle.ka_cpu.specs.Addresses.{reading}
 use Rattle.ka_cpu.specs.Exec.{word_behind}
-use Rattle.ka_cpu.specs.Memory.{word_at}
+use Rattle.ka_state.specs.Memory.{word_at}
 use Rattle.ka_cpu.proofs.processor.follow_executes.Given as goal
 
 abbrev pub invariant-loop-turn : goal.invariant-loop-turn

@@ -1,5 +1,5 @@
 use Rattle.std.proofs.Common.{rules, ◌≡◌, ◌<◌, ◌-◌, ◌∙◌, suc, arith}
-use Rattle.ka_cpu.specs.declared.outcome.Outcome.TheVariants.{Done}
+use Rattle.ka_state.specs.declared.outcome.Outcome.TheVariants.{Done}
 use Rattle.ka_cpu.proofs.RunSteps.{ran_ended}
 use Rattle.ka_cpu.proofs.processor.run_steps.Goals as goal
 

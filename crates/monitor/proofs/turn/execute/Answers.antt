@@ -1,6 +1,6 @@
 use Rattle.std.proofs.Common.{◌∙◌, sym, ap, subst}
 use Rattle.ka_cpu.specs.Runs.{Ran}
-use Rattle.ka_cpu.specs.declared.outcome.Outcome.{Outcome}
+use Rattle.ka_state.specs.declared.outcome.Outcome.{Outcome}
 use Rattle.monitor_laws.proofs.Stretching.{HasFields, ran-fields}
 use Rattle.monitor.proofs.turn.execute.Goals as goal
 

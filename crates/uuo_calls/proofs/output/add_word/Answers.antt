@@ -1,6 +1,6 @@
 use Rattle.std.proofs.Common.{Some, ◌≡◌, ◌≢◌, ◌∙◌, ◌+◌, ◌-◌, ◌/◌, ◌%◌, length, sym, arith}
 use Rattle.std.proofs.lemmas.Grind.{common_steps}
-use Rattle.ka_cpu.specs.Memory.{word_below}
+use Rattle.ka_state.specs.Memory.{word_below}
 use Rattle.uuo_calls.specs.TerminalRows.{character}
 use Rattle.uuo_calls.proofs.Texts.{same-word, place-in-word, text-zero, text-more}
 use Rattle.uuo_calls.proofs.output.add_word.Goals as goal

@@ -1,5 +1,5 @@
 use Rattle.std.proofs.Common.{ℕ, List, Some, ◌≡◌, ◌+◌, ◌-◌, ◌/◌, length}
-use Rattle.ka_cpu.specs.Memory.{word_below}
+use Rattle.ka_state.specs.Memory.{word_below}
 use Rattle.uuo_calls.specs.TerminalRows.{text_from}
 use Rattle.uuo_calls.proofs.output.add_word.Given as goal
 

@@ -1,6 +1,6 @@
 use Rattle.std.proofs.Common.{◌≡◌, ◌-◌, ◌+◌, ◌*◌, ◌/◌, ◌∙◌, None, Some, length, refl, arith}
 use Rattle.word36.specs.declared.sizes.TheConstants.{OUTPUT_RING}
-use Rattle.ka_cpu.specs.Memory.{word_below}
+use Rattle.ka_state.specs.Memory.{word_below}
 use Rattle.uuo_calls.proofs.Texts.{text_from-zero, text-none, either-way}
 use Rattle.uuo_calls.proofs.output.read_text.Goals as goal
 

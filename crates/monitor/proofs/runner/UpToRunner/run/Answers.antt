@@ -1,6 +1,6 @@
 use Rattle.std.proofs.Common.{rules, ◌≡◌, ◌+◌, ◌≤◌, ◌<◌, ◌∙◌, ℕ, false, refl, sym, ap, arith, below_more}
 use Rattle.ka_cpu.specs.Runs.{Ran, ran}
-use Rattle.ka_cpu.specs.declared.outcome.Outcome.{Outcome}
+use Rattle.ka_state.specs.declared.outcome.Outcome.{Outcome}
 use Rattle.machine.specs.Between.{is_among}
 use Rattle.monitor.proofs.Running.{ran_more, start}
 use Rattle.monitor.proofs.runner.UpToRunner.run.Goals as goal

@@ -1,6 +1,6 @@
 use Rattle.std.proofs.Common.{◌≡◌, ◌≤◌, ◌<◌, ◌+◌, ℕ, false}
 use Rattle.ka_cpu.specs.Runs.{ran}
-use Rattle.ka_cpu.specs.declared.outcome.Outcome.TheVariants.{Done}
+use Rattle.ka_state.specs.declared.outcome.Outcome.TheVariants.{Done}
 use Rattle.machine.specs.Between.{is_among}
 use Rattle.monitor.proofs.runner.UpToRunner.run.Given as goal
 

@@ -1,0 +1,4 @@
+pub mod Memory
+pub mod Copies
+pub mod Registers
+pub mod Outcomes

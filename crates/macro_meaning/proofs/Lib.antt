@@ -1,0 +1,4 @@
+pub mod Walks
+pub mod Stands
+pub mod Entries
+pub mod Lists

@@ -1,2 +1,0 @@
-pub mod MadeCalls
-pub mod NextCalls
