@@ -12,7 +12,7 @@ from concurrent.futures import ThreadPoolExecutor
 from pathlib import Path
 
 TOP = Path(__file__).resolve().parent.parent
-IMAGE = re.compile(rb"(?:[0-7]{6} [0-7]{6},,[0-7]{6}(?: ; (?:call|operation) not here)?\n)*START [0-7]{6}\n")
+IMAGE = re.compile(rb"(?:[0-7]{6} [0-7]{6},,[0-7]{6}(?: ; (?:call|operation) not here(?:: [A-Z.]+)?)?\n)*START [0-7]{6}\n")
 REFUSAL = re.compile(rb"\?(?:WORD|SAVE) [1-9][0-9]* [A-Z]+\n")
 REASON = re.compile(rb"image: word [1-9][0-9]*: .+\n    (?:it can be read by --from [a-z]+|--from says how .+)\n(?:    a word in octal is a line as .+\n)?")
 DAMAGES = (0x01, 0x08, 0x10, 0x80, 0xFF)
