@@ -1,3 +1,5 @@
 pub mod Xml
 pub mod Words
 pub mod Shapes
+pub mod Graphs
+pub mod Pictures

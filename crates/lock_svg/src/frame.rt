@@ -1,9 +1,12 @@
 //! The measures of a picture, in pixels.
 
 ghost use Rattle.std.specs.Prelude.{◌≡◌, ◌<◌};
+ghost use Rattle.lock_svg.specs.Graphs.{point_in};
 ghost use Rattle.lock_svg.specs.Shapes.{x_of};
 
+use crate::points::{Point, jobs_in, points_of};
 use lock_bars::{Drawing, Lane};
+use wait_graph::NUMBERS;
 
 /// The height of a lane.
 pub const LANE: usize = 22;
@@ -48,7 +51,7 @@ const LEAST_WIDTH: usize = 270;
 const LEAST_WHOLE: usize = 610;
 
 /// The measures of one picture, in pixels.
-#[derive(Clone, Copy, Debug)]
+#[derive(Drop)]
 pub struct Frame {
     /// Where the first column begins.
     pub left: usize,
@@ -60,6 +63,8 @@ pub struct Frame {
     pub lanes_end: usize,
     /// Where the graph begins.
     pub graph_left: usize,
+    /// The place of each job in the graph.
+    pub points: [Point; NUMBERS],
     /// The width of the graph.
     pub graph_width: usize,
     /// The width of the whole.
@@ -97,8 +102,9 @@ fn names_width(lanes: &[Lane]) -> usize {
 }
 
 impl Frame {
-    /// The measures of a drawing, whose graph has so many jobs.
-    pub fn of(drawing: &Drawing, jobs: usize) -> Self {
+    /// The measures of a drawing.
+    pub fn of(drawing: &Drawing) -> Self {
+        let jobs = jobs_in(&drawing.graph);
         let lanes = drawing.lanes.as_slice();
         let left = MARGIN
             .saturating_add(JOB)
@@ -116,6 +122,7 @@ impl Frame {
             columns,
             lanes_end,
             graph_left,
+            points: points_of(&drawing.graph, jobs, graph_left),
             graph_width,
             width: graph_left
                 .saturating_add(graph_width)
@@ -123,6 +130,14 @@ impl Frame {
                 .max(LEAST_WHOLE),
             height: tallest.saturating_add(BOTTOM),
         }
+    }
+
+    /// The place of a job in the graph.
+    pub fn point(&self, job: usize) -> Point
+        ensures { result ≡ point_in self.now job }
+    {
+        let points = self.points.as_slice();
+        points.get(job).copied().unwrap_or(Point { x: 0, y: 0 })
     }
 
     /// Where a column begins; columns are counted from 1.

@@ -5,6 +5,7 @@ mod along;
 mod area;
 mod bar_text;
 mod frame;
+mod points;
 mod run_course;
 mod svg;
 mod svg_graph;
@@ -12,4 +13,4 @@ mod svg_lines;
 
 pub use along::Along;
 pub use run_course::RunCourse;
-pub use svg::AsSvg;
+pub use svg::svg_of;

@@ -1,7 +1,9 @@
 //! What was seen along a run.
+ghost use Rattle.std.specs.Prelude.{IfOk, string_bytes};
+ghost use Rattle.lock_svg.specs.Pictures.{IsRunPicture};
 
 use crate::along::Along;
-use crate::svg::AsSvg;
+use crate::svg::svg_of;
 use lock_bars::{Column, Course, drawing_of};
 use lock_queue::LockTable;
 use std::alloc::{AllocError, Global};
@@ -55,7 +57,9 @@ impl RunCourse {
         alloc: Global,
         ticks: u64,
         table: &L,
-    ) -> Result<String, AllocError> {
+    ) -> Result<String, AllocError>
+        ensures { IfOk result (λ page. IsRunPicture (string_bytes page)) }
+    {
         let last = column_of(ticks.saturating_sub(1));
         let mut seen = self.ticks;
         if ticks > MOST_TICKS as u64 {
@@ -66,14 +70,7 @@ impl RunCourse {
         }
         seen.end_line(alloc, last.line, None, table)?;
         match drawing_of(alloc, seen, None, table) {
-            Ok(drawing) => {
-                let picture = AsSvg {
-                    drawing: &drawing,
-                    along: Along::Run,
-                    script: b"",
-                };
-                format!(in alloc; "{picture}")
-            }
+            Ok(drawing) => svg_of(alloc, &drawing, Along::Run, b""),
             Err(_) => Err(AllocError),
         }
     }

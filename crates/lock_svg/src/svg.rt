@@ -1,32 +1,24 @@
 //! The picture as SVG.
-ghost use Rattle.std.specs.Prelude.{◌≡◌};
+ghost use Rattle.std.specs.Prelude.{◌≡◌, IfOk, Some, string_bytes};
 ghost use Rattle.std.specs.Fmt.{WritesOnOk};
 ghost use Rattle.lock_svg.specs.Shapes.{amount_label, area_of, bar_box, bar_shape, bar_shapes, grant_sign, grant_signs};
 ghost use Rattle.lock_svg.specs.Shapes.{shape_in, sign_at, sign_in};
+ghost use Rattle.lock_svg.specs.Pictures.{IsPicture, ground_text, job_text, lane_text, lane_top, lanes_from, name_text, names_text};
+ghost use Rattle.lock_svg.specs.declared.frame.TheConstants.{TOP};
 ghost use Rattle.lock_svg.specs.Words.{bar_text, class_of};
 
 use crate::along::Along;
 use crate::area::Area;
 use crate::bar_text::BarText;
 use crate::frame::{BAR, Frame, GAP, LANE, MARGIN, TOP};
-use crate::svg_graph::{jobs_in, write_graph};
+use crate::svg_graph::GraphText;
 use crate::svg_lines::write_lines;
 use lock_bars::{Bar, Column, Drawing, Hold, Lane};
+use std::alloc::{AllocError, Global};
 use std::fmt;
 
 /// The room that a number takes above its column.
 const NUMBER: usize = 30;
-
-/// A picture as one SVG that needs no other file, on a white ground.
-#[derive(Clone, Copy)]
-pub struct AsSvg<'a> {
-    /// What it shows.
-    pub drawing: &'a Drawing,
-    /// What its columns stand for.
-    pub along: Along,
-    /// The script, whose lines a pointer shows that rests on a column; empty where there is none.
-    pub script: &'a [u8],
-}
 
 /// The styles of the parts.
 const STYLE: &str = "<style>
@@ -67,6 +59,7 @@ const PARTS: &str = "<defs>
 </defs>
 ";
 
+/// Writes what comes before the columns, after `<svg`.
 fn write_head<W: fmt::Write>(
     f: &mut fmt::Formatter<W>,
     frame: &Frame,
@@ -75,7 +68,7 @@ fn write_head<W: fmt::Write>(
     let (width, height) = (frame.width, frame.height);
     write!(
         f,
-        "<svg xmlns=\"http://www.w3.org/2000/svg\" width=\"{width}\" height=\"{height}\""
+        " xmlns=\"http://www.w3.org/2000/svg\" width=\"{width}\" height=\"{height}\""
     )?;
     write!(
         f,
@@ -335,59 +328,147 @@ fn write_grants<W: fmt::Write>(
     Ok(())
 }
 
-/// Writes the ground of a lane, its job's number where it is the job's first, and the lock's name.
+/// The number of a lane's job, if the lane is the job's first.
+#[derive(Clone, Copy)]
+struct JobText {
+    job: u8,
+    is_first: bool,
+    y: usize,
+}
+
+impl fmt::Display for JobText {
+    ghost output = { λ t. Some (job_text t.job t.is_first t.y) };
+
+    #[tactic(auto, unfolding(crate::specs::Pictures::job_text))]
+    fn fmt<W: fmt::Write>(&self, f: &mut fmt::Formatter<W>) -> fmt::Result {
+        let (job, y) = (self.job, self.y);
+        if self.is_first {
+            write!(
+                f,
+                "<text class=\"job\" x=\"{MARGIN}\" y=\"{y}\">job {job}</text>"
+            )
+        } else {
+            Ok(())
+        }
+    }
+}
+
+/// The name of a lane's lock.
+#[derive(Clone, Copy)]
+struct NameText<'a> {
+    x: usize,
+    y: usize,
+    label: &'a str,
+}
+
+impl fmt::Display for NameText<'_> {
+    ghost output = { λ t. Some (name_text t.x t.y t.label.now) };
+
+    fn fmt<W: fmt::Write>(&self, f: &mut fmt::Formatter<W>) -> fmt::Result {
+        let (x, y, label) = (self.x, self.y, self.label);
+        write!(
+            f,
+            "<text class=\"lock\" x=\"{x}\" y=\"{y}\">{label}</text>\n"
+        )
+    }
+}
+
+/// The ground of the lane that begins at `height`.
+fn ground_of_lane(frame: &Frame, height: usize) -> Area
+    ensures { result ≡ ground_text frame.now height }
+{
+    Area {
+        x: frame.left,
+        y: height.saturating_add(1),
+        width: frame.column.saturating_mul(frame.columns),
+        height: LANE - 2,
+    }
+}
+
+/// Writes the ground of a lane, its job's number if it is the job's first, and the lock's name.
 fn write_names<W: fmt::Write>(
     f: &mut fmt::Formatter<W>,
     frame: &Frame,
     lane: &Lane,
     is_first: bool,
     height: usize,
-) -> fmt::Result {
-    let left = frame.left;
-    let ground = Area {
-        x: left,
-        y: height.saturating_add(1),
-        width: frame.column.saturating_mul(frame.columns),
-        height: LANE - 2,
-    };
-    write!(f, "<rect class=\"row\" {ground}/>\n")?;
+) -> fmt::Result
+    ensures { WritesOnOk W.write_str_gives f.old result (names_text frame.now lane.now is_first height) f.new }
+{
+    let ground = ground_of_lane(frame, height);
     let y = height.saturating_add(15);
-    if is_first {
-        let job = lane.job;
-        write!(
-            f,
-            "<text class=\"job\" x=\"{MARGIN}\" y=\"{y}\">job {job}</text>"
-        )?;
-    }
-    let (x, label) = (left.saturating_sub(8), lane.label.as_str());
-    write!(
-        f,
-        "<text class=\"lock\" x=\"{x}\" y=\"{y}\">{label}</text>\n"
-    )
+    let job = JobText {
+        job: lane.job,
+        is_first,
+        y,
+    };
+    let name = NameText {
+        x: frame.left.saturating_sub(8),
+        y,
+        label: lane.label.as_str(),
+    };
+    write!(f, "<rect class=\"row\" {ground}/>\n{job}{name}")
 }
 
-/// Writes all lanes.
-fn write_lanes<W: fmt::Write>(
+/// Writes the lane that begins at `height`: its names, its bars and the signs on them.
+fn write_lane<W: fmt::Write>(
     f: &mut fmt::Formatter<W>,
-    frame: &Frame,
-    picture: &AsSvg<'_>,
-) -> fmt::Result {
-    let columns = picture.drawing.columns.as_slice();
-    let bars = picture.drawing.bars.as_slice();
-    let mut height = TOP;
-    let mut last = 0;
-    for lane in picture.drawing.lanes.as_slice() {
-        let is_first = lane.job != last;
-        if is_first && last != 0 {
-            height = height.saturating_add(GAP);
-        }
-        last = lane.job;
-        write_names(f, frame, lane, is_first, height)?;
-        write_bars(f, frame, picture.along, columns, bars, lane, height)?;
-        write_grants(f, frame, bars, lane, height)?;
-        height = height.saturating_add(LANE);
+    lanes: &LanesText<'_>,
+    lane: &Lane,
+    is_first: bool,
+    height: usize,
+) -> fmt::Result
+    ensures { WritesOnOk W.write_str_gives f.old result
+        (lane_text lanes.now.frame.now lanes.now.along lanes.now.columns.now lanes.now.bars.now lane.now is_first height) f.new }
+{
+    write_names(f, lanes.frame, lane, is_first, height)?;
+    write_bars(
+        f,
+        lanes.frame,
+        lanes.along,
+        lanes.columns,
+        lanes.bars,
+        lane,
+        height,
+    )?;
+    write_grants(f, lanes.frame, lanes.bars, lane, height)
+}
+
+/// The top of a lane after one of a job that ends at a height: there is a gap between the lanes of two jobs.
+fn lane_top(height: usize, last: u8, lane: &Lane) -> usize
+    ensures { result ≡ lane_top height last lane.now }
+{
+    if lane.job != last && last != 0 {
+        height.saturating_add(GAP)
+    } else {
+        height
     }
-    Ok(())
+}
+
+/// All lanes of a drawing.
+#[derive(Clone, Copy)]
+struct LanesText<'a> {
+    frame: &'a Frame,
+    along: Along,
+    columns: &'a [Column],
+    bars: &'a [Bar],
+    lanes: &'a [Lane],
+}
+
+impl fmt::Display for LanesText<'_> {
+    ghost output = { λ l. Some (lanes_from l.frame.now l.along l.columns.now l.bars.now TOP 0 l.lanes.now) };
+
+    fn fmt<W: fmt::Write>(&self, f: &mut fmt::Formatter<W>) -> fmt::Result {
+        let mut height = TOP;
+        let mut last = 0;
+        for lane in self.lanes {
+            let top = lane_top(height, last, lane);
+            write_lane(f, self, lane, lane.job != last, top)?;
+            last = lane.job;
+            height = top.saturating_add(LANE);
+        }
+        Ok(())
+    }
 }
 
 /// Writes a rule behind the column after which the graph shows the waits.
@@ -419,17 +500,98 @@ const LEGEND: &str =
 </g>
 ";
 
-impl fmt::Display for AsSvg<'_> {
+/// The part before the lanes, after `<svg`.
+#[derive(Clone, Copy)]
+struct Head<'a> {
+    frame: &'a Frame,
+    along: Along,
+    columns: &'a [Column],
+    script: &'a [u8],
+}
+
+impl fmt::Display for Head<'_> {
     fn fmt<W: fmt::Write>(&self, f: &mut fmt::Formatter<W>) -> fmt::Result {
-        let (drawing, along) = (self.drawing, self.along);
-        let frame = Frame::of(drawing, jobs_in(&drawing.graph));
-        write_head(f, &frame, along)?;
-        write_lines(f, &frame, drawing.columns.as_slice(), self.script)?;
-        write_axis(f, &frame, drawing.columns.as_slice(), along)?;
-        write_lanes(f, &frame, self)?;
-        write_rule(f, &frame, drawing.at_column)?;
-        write_graph(f, drawing, &frame, along)?;
-        write_legend(f, &frame)?;
+        write_head(f, self.frame, self.along)?;
+        write_lines(f, self.frame, self.columns, self.script)?;
+        write_axis(f, self.frame, self.columns, self.along)
+    }
+}
+
+/// The part between the lanes and the graph of the waits.
+#[derive(Clone, Copy)]
+struct Middle<'a> {
+    frame: &'a Frame,
+    along: Along,
+    drawing: &'a Drawing,
+}
+
+impl fmt::Display for Middle<'_> {
+    fn fmt<W: fmt::Write>(&self, f: &mut fmt::Formatter<W>) -> fmt::Result {
+        write_rule(f, self.frame, self.drawing.at_column)?;
+        let (x, y) = (self.frame.graph_left, TOP.saturating_sub(30));
+        let (unit, number) = (self.along.unit(), self.drawing.at);
+        write!(
+            f,
+            "<text class=\"heading\" x=\"{x}\" y=\"{y}\">Who waits for whom after {unit} {number}</text>\n"
+        )?;
+        if self.drawing.graph.is_empty() {
+            write!(f, "<text x=\"{x}\" y=\"{TOP}\">nobody waits</text>\n")
+        } else {
+            Ok(())
+        }
+    }
+}
+
+/// The part after that graph.
+#[derive(Clone, Copy)]
+struct Foot<'a>(&'a Frame);
+
+impl fmt::Display for Foot<'_> {
+    fn fmt<W: fmt::Write>(&self, f: &mut fmt::Formatter<W>) -> fmt::Result {
+        write_legend(f, self.0)?;
         f.write_str("</svg>\n")
     }
+}
+
+/// A drawing as one SVG that needs no other file, on a white ground. `along` says what its columns stand for; of the script, if
+/// there is one, a pointer shows the line on whose column it rests.
+pub fn svg_of(
+    alloc: Global,
+    drawing: &Drawing,
+    along: Along,
+    script: &[u8],
+) -> Result<String, AllocError>
+    ensures { IfOk result (λ page. IsPicture drawing.now along (string_bytes page)) }
+{
+    let frame = Frame::of(drawing);
+    let columns = drawing.columns.as_slice();
+    let head = Head {
+        frame: &frame,
+        along,
+        columns,
+        script,
+    };
+    let head = format!(in alloc; "{head}")?;
+    let middle = Middle {
+        frame: &frame,
+        along,
+        drawing,
+    };
+    let middle = format!(in alloc; "{middle}")?;
+    let foot = Foot(&frame);
+    let foot = format!(in alloc; "{foot}")?;
+    let lanes = LanesText {
+        frame: &frame,
+        along,
+        columns,
+        bars: drawing.bars.as_slice(),
+        lanes: drawing.lanes.as_slice(),
+    };
+    let graph = GraphText {
+        frame: &frame,
+        graph: &drawing.graph,
+        arrows: drawing.arrows.as_slice(),
+    };
+    let (head, middle, foot) = (head.as_str(), middle.as_str(), foot.as_str());
+    format!(in alloc; "<svg{head}{lanes}{middle}{graph}{foot}")
 }

@@ -1,95 +1,40 @@
 //! The graph of waits in a picture.
-ghost use Rattle.std.specs.Prelude.{◌≡◌};
+ghost use Rattle.std.specs.Prelude.{◌≡◌, ◌<◌, Some};
+ghost use Rattle.std.specs.Fmt.{WritesOnOk};
+ghost use Rattle.std.specs.List.{flat_map};
+ghost use Rattle.lock_svg.specs.Graphs.{arrow_of, arrows_text, bend_of, bent, curve_text, graph_text, head_of, kind_text, label_text_on};
+ghost use Rattle.lock_svg.specs.Graphs.{middle_of, name_at, node_at, node_class, node_text, nodes_text, wait_text, words_on};
 ghost use Rattle.lock_svg.specs.Words.{arrow_class};
 
-use crate::along::Along;
-use crate::frame::{Frame, TOP, radius_of};
-use lock_bars::{Arrow, Drawing, LockLabel};
+use crate::frame::Frame;
+use crate::points::Point;
+use lock_bars::{Arrow, LockLabel};
+use lock_queue::Key;
 use std::fmt;
 use wait_graph::{Graph, NUMBERS, Wait};
 
-/// How many parts the radius of a circle has.
-const RADIUS: usize = 1000;
-
-/// A point, in pixels.
-#[derive(Clone, Copy, Debug)]
-struct Point {
-    x: usize,
-    y: usize,
-}
-
-/// How many jobs wait or are waited for.
-pub fn jobs_in(graph: &Graph) -> usize {
-    let mut jobs = 0usize;
-    for job in 1..NUMBERS {
-        if graph.has(job) {
-            jobs = jobs.saturating_add(1);
-        }
-    }
-    jobs
-}
-
-/// How many jobs of lower numbers wait or are waited for.
-fn index_of(graph: &Graph, job: usize) -> usize {
-    let mut index = 0usize;
-    for lower in 1..NUMBERS {
-        if lower < job && graph.has(lower) {
-            index = index.saturating_add(1);
-        }
-    }
-    index
-}
-
-/// The sine, in thousandths, of an angle of `part` parts, where half a turn has `half` parts and the angle
-/// is less than that. This is Bhaskara's formula, which is off by less than three thousandths.
-fn sine(part: usize, half: usize) -> usize {
-    let square = part.saturating_mul(half.saturating_sub(part));
-    let whole = half.saturating_mul(half).saturating_mul(5);
-    let below = whole.saturating_sub(square.saturating_mul(4)).max(1);
-    square.saturating_mul(16).saturating_mul(RADIUS) / below
-}
-
-/// How far a point of a circle is from the circle's left edge, in thousandths of the radius. The point is
-/// `part` parts of the turn on from the top; half a turn has `half` parts.
-fn across(part: usize, half: usize) -> usize {
-    let part = part % half.saturating_mul(2).max(1);
-    if part < half {
-        RADIUS.saturating_add(sine(part, half))
-    } else {
-        RADIUS.saturating_sub(sine(part.saturating_sub(half), half))
-    }
-}
-
-/// The point of a job. The jobs are round a circle at equal distances, the first at the top.
-fn point_of(graph: &Graph, frame: &Frame, job: usize) -> Point {
-    let jobs = jobs_in(graph).max(1);
-    let (half, turned) = (
-        jobs.saturating_mul(2),
-        index_of(graph, job).saturating_mul(4),
-    );
-    let right = across(turned, half);
-    let down = across(turned.saturating_add(jobs.saturating_mul(3)), half);
-    let radius = radius_of(jobs);
-    let (edge, head) = (60usize, 24usize);
-    Point {
-        x: frame
-            .graph_left
-            .saturating_add(edge)
-            .saturating_add(right.saturating_mul(radius) / RADIUS),
-        y: TOP
-            .saturating_add(head)
-            .saturating_add(down.saturating_mul(radius) / RADIUS),
-    }
-}
-
 /// The middle of two coordinates, moved by a sixth of the distance between two others.
-fn bent(a: usize, b: usize, from: usize, to: usize) -> usize {
+fn bent(a: usize, b: usize, from: usize, to: usize) -> usize
+    ensures { result ≡ bent a b from to }
+{
     let middle = a.saturating_add(b) / 2;
     middle.saturating_add(to / 6).saturating_sub(from / 6)
 }
 
+/// The point to which an arrow is bent.
+fn bend_of(from: Point, to: Point) -> Point
+    ensures { result ≡ bend_of from to }
+{
+    Point {
+        x: bent(from.x, to.x, from.y, to.y),
+        y: bent(from.y, to.y, to.x, from.x),
+    }
+}
+
 /// The middle of a bent arrow, between its ends and the point to which it is bent.
-fn middle_of(from: usize, bent_to: usize, to: usize) -> usize {
+fn middle_of(from: usize, bent_to: usize, to: usize) -> usize
+    ensures { result ≡ middle_of from bent_to to }
+{
     let ends = from.saturating_add(to);
     ends.saturating_add(bent_to.saturating_mul(2)) / 4
 }
@@ -106,96 +51,253 @@ fn arrow_class(wait: Wait) -> &'static str
     }
 }
 
-/// Writes the arrow of a wait. It is bent to one side, so that two waits in opposite directions are apart. The name of
-/// the lock stands on it.
-fn write_wait<W: fmt::Write>(
-    f: &mut fmt::Formatter<W>,
-    graph: &Graph,
-    frame: &Frame,
-    arrow: &Arrow,
-) -> fmt::Result {
-    let wait = arrow.wait;
-    let Point { x: x1, y: y1 } = point_of(graph, frame, wait.job);
-    let Point { x: x2, y: y2 } = point_of(graph, frame, wait.other);
-    let x = bent(x1, x2, y1, y2);
-    let y = bent(y1, y2, x2, x1);
-    let class = arrow_class(wait);
-    let head = if wait.is_in_circle {
+/// The head of an arrow.
+fn head_of(wait: Wait) -> &'static str
+    ensures { result.now ≡ head_of wait }
+{
+    if wait.is_in_circle {
         "head-circle"
     } else {
         "head"
-    };
-    write!(
-        f,
-        "<path class=\"{class}\" d=\"M{x1} {y1}Q{x} {y} {x2} {y2}\" marker-end=\"url(#{head})\">"
-    )?;
-    let Some(key) = &arrow.lock else {
-        return write!(f, "<title>{wait}</title></path>\n");
-    };
-    let label = LockLabel(key);
-    let (middle, height) = (middle_of(x1, x, x2), middle_of(y1, y, y2));
-    let foot = height.saturating_add(4);
-    write!(
-        f,
-        "<title>{wait}, for {label}</title></path>\n<text class=\"on\" x=\"{middle}\" y=\"{foot}\">{label}</text>\n"
-    )
-}
-
-fn write_waits<W: fmt::Write>(
-    f: &mut fmt::Formatter<W>,
-    drawing: &Drawing,
-    frame: &Frame,
-) -> fmt::Result {
-    for arrow in drawing.arrows.as_slice() {
-        write_wait(f, &drawing.graph, frame, arrow)?;
     }
-    Ok(())
 }
 
-fn write_jobs<W: fmt::Write>(
-    f: &mut fmt::Formatter<W>,
-    graph: &Graph,
-    frame: &Frame,
-) -> fmt::Result {
-    for job in 1..NUMBERS {
-        if !graph.has(job) {
-            continue;
-        }
-        let Point { x, y } = point_of(graph, frame, job);
-        let class = if graph.is_in_circle(job) {
-            "node circle"
-        } else {
-            "node"
+/// For whom a wait is, and whether it is in a circle.
+fn kind_text(wait: Wait) -> &'static str
+    ensures { result.now ≡ kind_text wait }
+{
+    match (wait.is_hard, wait.is_in_circle) {
+        (true, true) => ", hard, in a circle",
+        (true, false) => ", hard",
+        (false, true) => ", soft, in a circle",
+        (false, false) => ", soft",
+    }
+}
+
+/// What is said of a wait.
+#[derive(Clone, Copy)]
+struct WaitText(Wait);
+
+impl fmt::Display for WaitText {
+    ghost output = { λ w. Some (wait_text w.0) };
+
+    fn fmt<W: fmt::Write>(&self, f: &mut fmt::Formatter<W>) -> fmt::Result {
+        let (job, other, kind) = (self.0.job, self.0.other, kind_text(self.0));
+        write!(f, "job {job} waits for job {other}{kind}")
+    }
+}
+
+/// For which lock a wait is, if that is known.
+#[derive(Clone, Copy)]
+struct WordsOn<'a>(&'a Option<Key>);
+
+impl fmt::Display for WordsOn<'_> {
+    ghost output = { λ w. Some (words_on w.0.now) };
+
+    fn fmt<W: fmt::Write>(&self, f: &mut fmt::Formatter<W>) -> fmt::Result {
+        let Some(key) = self.0 else {
+            return Ok(());
+        };
+        let label = LockLabel(key);
+        write!(f, ", for {label}")
+    }
+}
+
+/// The name of a lock in the middle of an arrow.
+#[derive(Clone, Copy)]
+struct LabelOn<'a> {
+    at: Point,
+    lock: &'a Option<Key>,
+}
+
+impl fmt::Display for LabelOn<'_> {
+    ghost output = { λ l. Some (label_text_on l.at l.lock.now) };
+
+    fn fmt<W: fmt::Write>(&self, f: &mut fmt::Formatter<W>) -> fmt::Result {
+        let Some(key) = self.lock else {
+            return Ok(());
+        };
+        let (x, y, label) = (self.at.x, self.at.y, LockLabel(key));
+        write!(f, "<text class=\"on\" x=\"{x}\" y=\"{y}\">{label}</text>\n")
+    }
+}
+
+/// The place of the name of an arrow's lock.
+fn name_at(from: Point, bend: Point, to: Point) -> Point
+    ensures { result ≡ name_at from bend to }
+{
+    Point {
+        x: middle_of(from.x, bend.x, to.x),
+        y: middle_of(from.y, bend.y, to.y).saturating_add(4),
+    }
+}
+
+/// The line of an arrow.
+#[derive(Clone, Copy)]
+struct Curve {
+    from: Point,
+    bend: Point,
+    to: Point,
+}
+
+impl fmt::Display for Curve {
+    ghost output = { λ c. Some (curve_text c.from c.bend c.to) };
+
+    fn fmt<W: fmt::Write>(&self, f: &mut fmt::Formatter<W>) -> fmt::Result {
+        let (x1, y1, x, y) = (self.from.x, self.from.y, self.bend.x, self.bend.y);
+        let (x2, y2) = (self.to.x, self.to.y);
+        write!(f, "M{x1} {y1}Q{x} {y} {x2} {y2}")
+    }
+}
+
+/// The arrow of a wait. It is bent to one side, so that two waits in opposite directions are apart. The name of the lock
+/// is on it.
+#[derive(Clone, Copy)]
+struct ArrowText<'a> {
+    class: &'a str,
+    head: &'a str,
+    arrow: &'a Arrow,
+    curve: Curve,
+    at: Point,
+}
+
+impl fmt::Display for ArrowText<'_> {
+    ghost output = { λ a. Some (arrow_of a.class.now a.head.now a.arrow.now a.curve.from a.curve.bend a.curve.to a.at) };
+
+    fn fmt<W: fmt::Write>(&self, f: &mut fmt::Formatter<W>) -> fmt::Result {
+        let (class, head, curve) = (self.class, self.head, self.curve);
+        let (wait, lock) = (WaitText(self.arrow.wait), WordsOn(&self.arrow.lock));
+        let label = LabelOn {
+            at: self.at,
+            lock: &self.arrow.lock,
         };
         write!(
             f,
-            "<circle class=\"{class}\" cx=\"{x}\" cy=\"{y}\" r=\"15\"/>"
-        )?;
-        let below = y.saturating_add(5);
+            "<path class=\"{class}\" d=\"{curve}\" marker-end=\"url(#{head})\"><title>{wait}{lock}</title></path>\n{label}"
+        )
+    }
+}
+
+/// Writes an arrow.
+fn write_arrow<W: fmt::Write>(
+    f: &mut fmt::Formatter<W>,
+    frame: &Frame,
+    arrow: &Arrow,
+) -> fmt::Result
+    ensures { WritesOnOk W.write_str_gives f.old result (arrows_text frame.now arrow.now) f.new }
+{
+    let (from, to) = (frame.point(arrow.wait.job), frame.point(arrow.wait.other));
+    let bend = bend_of(from, to);
+    let at = name_at(from, bend, to);
+    let text = ArrowText {
+        class: arrow_class(arrow.wait),
+        head: head_of(arrow.wait),
+        arrow,
+        curve: Curve { from, bend, to },
+        at,
+    };
+    write!(f, "{text}")
+}
+
+/// The class of a job, which gives its colour.
+fn node_class(graph: &Graph, job: usize) -> &'static str
+    requires { job < NUMBERS }
+    ensures { result.now ≡ node_class graph.now job }
+{
+    if graph.is_in_circle(job) {
+        "node circle"
+    } else {
+        "node"
+    }
+}
+
+/// A job at a point.
+#[derive(Clone, Copy)]
+struct NodeText<'a> {
+    class: &'a str,
+    at: Point,
+    /// The foot of its number.
+    foot: usize,
+    job: usize,
+}
+
+impl fmt::Display for NodeText<'_> {
+    ghost output = { λ n. Some (node_at n.class.now n.at n.foot n.job) };
+
+    fn fmt<W: fmt::Write>(&self, f: &mut fmt::Formatter<W>) -> fmt::Result {
+        let (class, x, y, foot, job) = (self.class, self.at.x, self.at.y, self.foot, self.job);
         write!(
             f,
-            "<text class=\"number\" x=\"{x}\" y=\"{below}\">{job}</text>\n"
-        )?;
+            "<circle class=\"{class}\" cx=\"{x}\" cy=\"{y}\" r=\"15\"/><text class=\"number\" x=\"{x}\" y=\"{foot}\">{job}</text>\n"
+        )
+    }
+}
+
+/// Writes a job if it waits or is waited for.
+fn write_node<W: fmt::Write>(
+    f: &mut fmt::Formatter<W>,
+    graph: &Graph,
+    frame: &Frame,
+    job: usize,
+) -> fmt::Result
+    requires { job < NUMBERS }
+    ensures { WritesOnOk W.write_str_gives f.old result (node_text frame.now graph.now job) f.new }
+{
+    if !graph.has(job) {
+        return Ok(());
+    }
+    let at = frame.point(job);
+    let node = NodeText {
+        class: node_class(graph, job),
+        at,
+        foot: at.y.saturating_add(5),
+        job,
+    };
+    write!(f, "{node}")
+}
+
+/// Writes the jobs that wait or are waited for.
+fn write_nodes<W: fmt::Write>(
+    f: &mut fmt::Formatter<W>,
+    graph: &Graph,
+    frame: &Frame,
+) -> fmt::Result
+    ensures { WritesOnOk W.write_str_gives f.old result (nodes_text frame.now graph.now) f.new }
+{
+    for job in 1..NUMBERS {
+        write_node(f, graph, frame, job)?;
     }
     Ok(())
 }
 
-/// Writes the graph of the waits after the line or tick of a drawing.
-pub fn write_graph<W: fmt::Write>(
+/// Writes the arrows of the waits.
+fn write_arrows<W: fmt::Write>(
     f: &mut fmt::Formatter<W>,
-    drawing: &Drawing,
     frame: &Frame,
-    along: Along,
-) -> fmt::Result {
-    let (x, y) = (frame.graph_left, TOP.saturating_sub(30));
-    let (unit, number) = (along.unit(), drawing.at);
-    write!(
-        f,
-        "<text class=\"heading\" x=\"{x}\" y=\"{y}\">Who waits for whom after {unit} {number}</text>\n"
-    )?;
-    if drawing.graph.is_empty() {
-        return write!(f, "<text x=\"{x}\" y=\"{TOP}\">nobody waits</text>\n");
+    arrows: &[Arrow],
+) -> fmt::Result
+    ensures { WritesOnOk W.write_str_gives f.old result (flat_map (arrows_text frame.now) arrows.now) f.new }
+{
+    for arrow in arrows {
+        write_arrow(f, frame, arrow)?;
     }
-    write_waits(f, drawing, frame)?;
-    write_jobs(f, &drawing.graph, frame)
+    Ok(())
+}
+
+/// The graph of waits: an arrow for each, and the jobs that wait or are waited for.
+#[derive(Clone, Copy)]
+pub struct GraphText<'a> {
+    pub frame: &'a Frame,
+    pub graph: &'a Graph,
+    pub arrows: &'a [Arrow],
+}
+
+impl fmt::Display for GraphText<'_> {
+    ghost output = { λ g. Some (graph_text g.frame.now g.graph.now g.arrows.now) };
+
+    #[tactic(auto, unfolding(crate::specs::Graphs::graph_text))]
+    fn fmt<W: fmt::Write>(&self, f: &mut fmt::Formatter<W>) -> fmt::Result {
+        write_arrows(f, self.frame, self.arrows)?;
+        write_nodes(f, self.graph, self.frame)
+    }
 }

@@ -1,3 +1,4 @@
 pub mod Rounds
 pub mod Called
 pub mod Faults
+pub mod Pages

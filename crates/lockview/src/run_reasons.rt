@@ -10,10 +10,10 @@ use crate::called::{ExplainedCall, explained};
 use crate::run_lines::{Repeated, do_line, make_steps, make_tick, repeated_by};
 use lock_bars::{MOST_LINES, ScriptError, ScriptLines};
 use lock_queue::{LockTable, Refusal};
-use op_script::{Config, Machine, RunState};
+use op_script::{Config, Machine, RunState, Undone};
 use program_shell::PendingText;
 use run_events::Fact;
-use script_reasons::{say_answers, say_explanation};
+use script_reasons::push_answers;
 use shown_bytes::shown_text;
 use std::alloc::{AllocError, Global};
 use uuo_calls::{BlockRoom, LockService};
@@ -56,8 +56,8 @@ fn say_call(text: &mut PendingText, made: &ExplainedCall) {
     });
     text.say_made(format!(in alloc; "{function:o}"));
     say_answer(text, made.refusal);
-    text.say(": ");
-    say_explanation(text, &made.explanation);
+    let explanation = &made.explanation;
+    text.say_made(format!(in alloc; ": {explanation}"));
 }
 
 impl Notes {
@@ -182,6 +182,21 @@ fn explain_steps(
     Ok(())
 }
 
+/// The answers to a line, each on a line of its own, with the rule by which its command is not done, if it is not.
+fn answers_of(
+    alloc: Global,
+    answers: &[u8],
+    undone: Option<Undone>,
+) -> Result<Vec<u8>, AllocError> {
+    let rule = match undone {
+        Some(undone) => format!(in alloc; "{undone}")?,
+        None => String::new(alloc),
+    };
+    let mut lines = Vec::new(alloc);
+    push_answers(&mut lines, answers, rule.as_str().as_bytes())?;
+    Ok(lines)
+}
+
 /// Does a line, writes it with its answers, and says whether the script goes on after it.
 fn explain_line(
     alloc: Global,
@@ -204,11 +219,8 @@ fn explain_line(
     }
     let mut answers = Vec::new(alloc);
     let end = do_line(alloc, state, number, line, &mut answers)?;
-    let mut rule = PendingText::new(alloc);
-    if let Some(undone) = end.undone {
-        rule.say_made(format!(in alloc; "{undone}"));
-    }
-    say_answers(text, answers.as_slice(), &rule);
+    let lines = answers_of(alloc, answers.as_slice(), end.undone)?;
+    text.add(lines.as_slice());
     Ok(end.ending.is_none())
 }
 

@@ -1,15 +1,18 @@
 //! The whole program over any ports.
-ghost use Rattle.std.specs.Prelude.{◌≡◌, false, IfOk};
+ghost use Rattle.std.specs.Prelude.{◌≡◌, ◌<◌, false, IfOk};
+ghost use Rattle.std.specs.Io.KnownBytes.{Appends};
 ghost use Rattle.program_shell.specs.Reports.{WritesOnlyWhenDone};
+ghost use Rattle.program_shell.specs.declared.statuses.TheConstants.{DONE};
+ghost use Rattle.lockview.specs.Pages.{IsDrawingOf, IsDrawn, IsExplainedOn, IsPage, IsSvg, WritesPage};
 
 use crate::arguments::{Form, Options, read_arguments};
 use crate::run_course::draw_run_script;
 use crate::run_reasons::explain_run_script;
 use crate::text::say_picture;
 use fault_text::{NO_ENDASM, Refused, explain};
-use lock_bars::{MOST_LINES, ScriptError, ScriptLines, SourceFault, draw_script};
-use lock_svg::{Along, AsSvg};
-use op_script::{OtherMachine, head_of};
+use lock_bars::{Drawing, MOST_LINES, ScriptError, ScriptLines, SourceFault, draw_script};
+use lock_svg::{Along, svg_of};
+use op_script::{Config, OtherMachine, head_of};
 use program_shell::{
     DONE, FAILED, Failure, FailureLines, PendingText, REFUSED, USAGE, read_file, read_input,
     refuse_arguments, report_failure, report_to,
@@ -31,43 +34,80 @@ pub const FAILURE_LINES: FailureLines = FailureLines {
 /// that a longer script has a line too many, or one that is too long, among these.
 const MOST_BYTES: usize = (MOST_LINES + 1) * (LINE_LENGTH + 2);
 
-/// Adds the picture of a script.
-fn say_drawing(
-    alloc: Global,
-    text: &mut PendingText,
-    options: &Options,
-    script: &[u8],
-) -> Result<(), ScriptError> {
-    let drawing = match options.machine {
-        Some(config) => draw_run_script(alloc, config, script, options.at)?,
-        None => draw_script(alloc, script, options.at)?,
-    };
-    if options.form == Form::Text {
-        say_picture(text, &drawing, script);
-    } else {
-        let svg = AsSvg {
-            drawing: &drawing,
-            along: Along::Script,
-            script,
-        };
-        text.say_made(format!(in alloc; "{svg}"));
-    }
-    Ok(())
+/// The drawing of a script of `lockmon queue`.
+fn queue_drawing(alloc: Global, script: &[u8], at: Option<usize>) -> Result<Drawing, ScriptError>
+    ensures { IfOk result (λ drawing. IsDrawingOf at script.now drawing) }
+{
+    let drawing = draw_script(alloc, script, at)?;
+    Ok(drawing)
 }
 
-/// Adds what the options ask for of a script.
-fn say_script(
-    alloc: Global,
-    text: &mut PendingText,
-    options: &Options,
-    script: &[u8],
-) -> Result<(), ScriptError> {
-    if options.form != Form::Explained {
-        return say_drawing(alloc, text, options, script);
-    }
+/// The drawing of a script.
+fn drawing_for(alloc: Global, options: &Options, script: &[u8]) -> Result<Drawing, ScriptError>
+    ensures { IfOk result (λ drawing. IsDrawn options.now.machine options.now.at script.now drawing) }
+{
     match options.machine {
-        Some(config) => explain_run_script(alloc, config, text, script),
-        None => explain_script(alloc, text, script),
+        Some(config) => draw_run_script(alloc, config, script, options.at),
+        None => queue_drawing(alloc, script, options.at),
+    }
+}
+
+/// The picture of a script as SVG.
+fn svg_page(alloc: Global, options: &Options, script: &[u8]) -> Result<Vec<u8>, ScriptError>
+    ensures { IfOk result (λ page. IsSvg options.now.machine options.now.at script.now page.items) }
+{
+    let drawing = drawing_for(alloc, options, script)?;
+    let svg = svg_of(alloc, &drawing, Along::Script, script)?;
+    let page = Vec::from_slice(alloc, svg.as_str().as_bytes())?;
+    Ok(page)
+}
+
+/// All of a text, if there was memory for it.
+fn whole_of(alloc: Global, text: &PendingText) -> Result<Vec<u8>, ScriptError> {
+    if !text.is_whole() {
+        return Err(ScriptError::Memory);
+    }
+    let page = Vec::from_slice(alloc, text.as_bytes())?;
+    Ok(page)
+}
+
+/// The picture of a script as text.
+fn text_page(alloc: Global, options: &Options, script: &[u8]) -> Result<Vec<u8>, ScriptError> {
+    let drawing = drawing_for(alloc, options, script)?;
+    let mut text = PendingText::new(alloc);
+    say_picture(&mut text, &drawing, script);
+    whole_of(alloc, &text)
+}
+
+/// A script of `lockmon run` with its answers and their reasons.
+fn explained_run(alloc: Global, config: Config, script: &[u8]) -> Result<Vec<u8>, ScriptError> {
+    let mut text = PendingText::new(alloc);
+    explain_run_script(alloc, config, &mut text, script)?;
+    whole_of(alloc, &text)
+}
+
+/// A script with its answers and their reasons.
+fn explained_page(
+    alloc: Global,
+    machine: Option<Config>,
+    script: &[u8],
+) -> Result<Vec<u8>, ScriptError>
+    ensures { IfOk result (λ page. IsExplainedOn machine script.now page.items) }
+{
+    match machine {
+        Some(config) => explained_run(alloc, config, script),
+        None => explain_script(alloc, script),
+    }
+}
+
+/// What the options ask for of a script.
+fn page_of(alloc: Global, options: &Options, script: &[u8]) -> Result<Vec<u8>, ScriptError>
+    ensures { IfOk result (λ page. IsPage options.now.form options.now.machine options.now.at script.now page.items) }
+{
+    match options.form {
+        Form::Svg => svg_page(alloc, options, script),
+        Form::Text => text_page(alloc, options, script),
+        Form::Explained => explained_page(alloc, options.machine, script),
     }
 }
 
@@ -142,7 +182,10 @@ fn say_fault(text: &mut PendingText, options: &Options, script: &[u8], error: Sc
     text.end_line();
 }
 
-fn status_of(error: ScriptError) -> u8 {
+/// The exit status of a script that is refused.
+fn status_of(error: ScriptError) -> u8
+    ensures { 0 < result }
+{
     match error {
         ScriptError::Memory => FAILED,
         ScriptError::Line(_)
@@ -171,6 +214,24 @@ fn read_script<F: Files + AllocGlobal, R: ByteIn, E: ByteOut>(
     }
 }
 
+/// Writes a page, and then a report; gives the exit status.
+fn write_page<W: ByteOut, E: ByteOut>(
+    page: &[u8],
+    report: &[u8],
+    writer: &mut W,
+    errors: &mut E,
+) -> u8
+    requires writer_sound { W.has_failed writer.old ≡ false }
+    requires errors_sound { E.has_failed errors.old ≡ false }
+    ensures silent { WritesOnlyWhenDone (W.has_failed writer.new) (W.written writer.old) (W.written writer.new) result }
+    ensures page { result ≡ DONE → Appends (W.written writer.old) (W.written writer.new) page.now }
+{
+    match write_all(writer, page) {
+        Ok(()) => report_to(errors, report, DONE),
+        Err(_) => report_failure(errors, &FAILURE_LINES, Failure::Write),
+    }
+}
+
 /// Writes what the options ask for of a script; gives the exit status.
 fn answer<W: ByteOut, E: ByteOut>(
     alloc: Global,
@@ -182,24 +243,25 @@ fn answer<W: ByteOut, E: ByteOut>(
     requires writer_sound { W.has_failed writer.old ≡ false }
     requires errors_sound { E.has_failed errors.old ≡ false }
     ensures silent { WritesOnlyWhenDone (W.has_failed writer.new) (W.written writer.old) (W.written writer.new) result }
+    ensures page { result ≡ DONE → WritesPage options.now.form options.now.machine options.now.at script.now
+        (W.written writer.old) (W.written writer.new) }
 {
-    let mut text = PendingText::new(alloc);
     let mut report = PendingText::new(alloc);
     say_head(&mut report, options, script);
-    let status = match say_script(alloc, &mut text, options, script) {
-        Ok(()) => DONE,
+    let page = match page_of(alloc, options, script) {
+        Ok(page) => page,
         Err(error) => {
             say_fault(&mut report, options, script, error);
-            status_of(error)
+            if !report.is_whole() {
+                return report_failure(errors, &FAILURE_LINES, Failure::Memory);
+            }
+            return report_to(errors, report.as_bytes(), status_of(error));
         }
     };
-    if !text.is_whole() || !report.is_whole() {
+    if !report.is_whole() {
         return report_failure(errors, &FAILURE_LINES, Failure::Memory);
     }
-    if status == DONE && write_all(writer, text.as_bytes()).is_err() {
-        return report_failure(errors, &FAILURE_LINES, Failure::Write);
-    }
-    report_to(errors, report.as_bytes(), status)
+    write_page(page.as_slice(), report.as_bytes(), writer, errors)
 }
 
 /// Reads the script of the file that the arguments name, or of the reader, and writes what the arguments ask for: a

@@ -1,2 +1,4 @@
 pub mod QueueLines
 pub mod Explanations
+pub mod Sentences
+pub mod Pages

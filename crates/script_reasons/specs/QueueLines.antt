@@ -8,7 +8,7 @@ use Rattle.lock_queue.specs.declared.refusal.Refusal.{Refusal}
 use Rattle.lock_queue.specs.declared.request.Request.{Request}
 use Rattle.lock_queue.specs.declared.want.Want.{Want}
 use Rattle.lock_queue.specs.Jobs.{is_waiting_job}
-use Rattle.queue_script.specs.Commands.{OwnedCommand, nothing, call, status, free, show, waits, quit, command_of}
+use Rattle.queue_script.specs.Commands.{OwnedCommand, call, status, waits, command_of}
 use Rattle.queue_script.specs.QueueScripts.{effect_of}
 use Rattle.script_io.specs.declared.endings.Ending.{Ending}
 use Rattle.script_reasons.specs.declared.queue_lines.ExplainedLine.{ExplainedLine}

@@ -3,9 +3,10 @@
 #![tactic(auto)]
 
 mod explanations;
+mod pages;
 mod queue_lines;
 mod sentences;
 
 pub use explanations::{Explanation, judge};
-pub use queue_lines::{ExplainedLine, explain_lines, explain_script, say_answers};
-pub use sentences::say_explanation;
+pub use pages::{explain_script, push_answers};
+pub use queue_lines::{ExplainedLine, explain_lines};

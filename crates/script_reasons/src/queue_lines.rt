@@ -7,14 +7,11 @@ ghost use Rattle.script_reasons.specs.QueueLines.{explanation_in, line_explanati
 ghost use Rattle.script_reasons.specs.Explanations.{as_explanation, judged};
 
 use crate::explanations::{Explanation, judge};
-use crate::sentences::say_explanation;
 use lock_bars::{MOST_LINES, ScriptError, ScriptLines, do_command};
 use lock_queue::{LockCall, LockTable};
 use lock_table::ProgramTable;
-use program_shell::PendingText;
 use queue_script::{CallRoom, Command, QueueService, read_command};
 use script_io::{Ending, LineService};
-use shown_bytes::shown_text;
 use std::alloc::{AllocError, Global};
 use wait_graph::requests_in;
 
@@ -141,52 +138,4 @@ pub fn explain_lines(alloc: Global, script: &[u8]) -> Result<Vec<ExplainedLine>,
     ensures { IfOk result (λ all. map explanation_in all.items ≡ line_explanations script.now) }
 {
     explain_on::<ProgramTable>(alloc, script)
-}
-
-/// Adds the answers to a line, each on a line of its own; behind the first stands the reason, if there is one.
-pub fn say_answers(text: &mut PendingText, answers: &[u8], reason: &PendingText) {
-    let mut reason = reason.as_bytes();
-    let mut lines = ScriptLines::of(answers);
-    while let Some(line) = lines.next() {
-        text.say("    ");
-        text.add(line);
-        if !reason.is_empty() {
-            text.say(": ");
-            text.add(reason);
-            reason = b"";
-        }
-        text.end_line();
-    }
-}
-
-/// Adds a line that was done, with its answers and their reason.
-fn say_line(text: &mut PendingText, line: &[u8], explained: &ExplainedLine) {
-    let alloc = text.alloc;
-    let mut reason = PendingText::new(alloc);
-    if let Some(explanation) = &explained.explanation {
-        say_explanation(&mut reason, explanation);
-    }
-    text.say_made(shown_text(alloc, line));
-    text.end_line();
-    say_answers(text, explained.answers.as_slice(), &reason);
-    if !reason.is_whole() {
-        text.fail();
-    }
-}
-
-/// Adds a script of `lockmon queue`, each line with the answers that `lockmon queue` gives to it, and behind each code
-/// and each WAIT the reason: which request, which lock and which rule. It is refused as by `explain_lines`.
-pub fn explain_script(
-    alloc: Global,
-    text: &mut PendingText,
-    script: &[u8],
-) -> Result<(), ScriptError> {
-    let explained = explain_lines(alloc, script)?;
-    let mut lines = ScriptLines::of(script);
-    for done in explained.as_slice() {
-        if let Some(line) = lines.next() {
-            say_line(text, line, done);
-        }
-    }
-    Ok(())
 }

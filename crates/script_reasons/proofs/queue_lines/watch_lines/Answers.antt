@@ -1,4 +1,4 @@
-use Rattle.std.proofs.Common.{◌≡◌, ◌+◌, ◌∙◌, None, Some, ap, map, sym, subst, true, arith, rules}
+use Rattle.std.proofs.Common.{◌≡◌, ◌+◌, None, map, sym, subst, true, arith, rules}
 use Rattle.queue_script.specs.Borrowed.{owned_command}
 use Rattle.queue_script.specs.QueueScripts.{effect_of}
 use Rattle.queue_script.specs.WellFormed.{is_well_formed}
