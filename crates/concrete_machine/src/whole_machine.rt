@@ -2,7 +2,7 @@
 ghost use Rattle.std.specs.Prelude.{ℕ, ◌≡◌, ◌≢◌, ◌≤◌, ◌<◌, ◌⊎◌, true, false, is_some, Some, IfOk};
 ghost use Rattle.word36.specs.declared.sizes.TheConstants.{MOST_REQUESTS};
 ghost use Rattle.machine.specs.Between.{Between, is_among, next_in};
-ghost use Rattle.machine.specs.Deposits.{deposited, started_at};
+ghost use Rattle.machine.specs.Deposits.{deposited, end_by_hand, executed_by_hand, is_done_by_hand, started_at};
 ghost use Rattle.machine.specs.Machine.{happens, after, answers, at_boot};
 ghost use Rattle.machine.specs.Next.{asked_next, block_next, effective_in, executed_in};
 ghost use Rattle.machine.specs.Rounds.{rounds, runs_in};
@@ -10,13 +10,14 @@ ghost use Rattle.machine.specs.Views.{job_view, word_in};
 ghost use Rattle.machine.specs.declared.event.Event.TheVariants.{Tick};
 ghost use Rattle.progress_laws.specs.Promises.{EventKeeps};
 ghost use Rattle.run_events.specs.Facts.{facts_of_tick};
-ghost use Rattle.run_events.specs.Runs.{LeadsTo};
+ghost use Rattle.run_events.specs.Runs.{LeadsTo, facts_of_round};
 
 use core_store::BlockCore;
+use ka_state::Outcome;
 use lock_queue::LockTable;
 use lock_table::ProgramTable;
 use monitor::{Answer, Config, Event, JobView, Rounds, System};
-use run_events::{Fact, RoundsMade, rounds_facts, tick_facts};
+use run_events::{Fact, RoundsMade, round_facts, rounds_facts, tick_facts};
 use std::alloc::{AllocError, Global};
 use std::marker::Model;
 use uuo_calls::{Asked, BlockRoom};
@@ -92,6 +93,19 @@ impl Machine {
         rounds_facts(alloc, &mut self.system, room, most)
     }
 
+    /// Makes a round, a step and a tick, and gives the job that ran in it, if one was ready, and the facts of the round.
+    pub fn round_facts(
+        &mut self,
+        alloc: Global,
+        room: &mut BlockRoom,
+    ) -> (Option<u8>, Result<Vec<Fact>, AllocError>)
+        ensures state { self.new ≡ after (rounds 1 true) self.old }
+        ensures job { result.0 ≡ next_in self.old }
+        ensures facts { IfOk result.1 (λ facts. facts.items ≡ facts_of_round self.old) }
+    {
+        round_facts(alloc, &mut self.system, room)
+    }
+
     /// Makes a tick, and gives its facts.
     pub fn tick_facts(&mut self, alloc: Global) -> Result<Vec<Fact>, AllocError>
         ensures state { self.new ≡ (happens self.old Tick).state }
@@ -151,6 +165,18 @@ impl Machine {
         ensures kept { result ≡ false → self.new ≡ self.old }
     {
         self.system.deposit(n, a, w)
+    }
+
+    /// Executes a word for a job, as a debugger does with an instruction that is typed: as if it stood before the instruction
+    /// at the job's PC. It takes no turn and no time, and the job's stop and wait stay. Tells how the processor ends it; `None`
+    /// where the job is not there. Nothing changes where it is not complete. This is not an event.
+    pub fn execute(&mut self, n: u8, word: Word) -> Option<Outcome>
+        ensures state { self.new ≡ executed_by_hand self.old n word }
+        ensures end { result ≡ end_by_hand self.old n word }
+        ensures others { (m b : ℕ) → m ≢ n → word_in self.new.world m b ≡ word_in self.old.world m b }
+        ensures kept { is_done_by_hand result ≡ false → self.new ≡ self.old }
+    {
+        self.system.execute(n, word)
     }
 
     /// Starts a job at an address, as a debugger does. This is not an event either.

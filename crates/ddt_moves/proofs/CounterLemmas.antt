@@ -15,7 +15,8 @@ use Rattle.ddt_moves.specs.declared.run_stops.Cause.{Cause}
 use Rattle.ddt_moves.specs.declared.stop_lists.StopList.{StopList}
 use Rattle.ddt_moves.specs.declared.visits.Counter.{Counter}
 use Rattle.ddt_moves.proofs.VisitLemmas.{AreCountersOf, are-after, cause_is, none_behind, none_due}
-use Rattle.ddt_moves.proofs.WatchLemmas.{asks, goes_on_parts, last_look}
+use Rattle.ddt_timeline.proofs.AskingLemmas.{both-none}
+use Rattle.ddt_moves.proofs.WatchLemmas.{asks, goes_on_parts, last_look, looked_at}
 
 -- none of the counters of a run is due where it goes on
 pub record IsCounted (s : S) (cs : List Counter) (ran : Run) : Type 0 where
@@ -66,7 +67,7 @@ due_same s list cs v n before =
 -- none is due in a round that does not end the run
 last_none : (s : S) (list : StopList) (cs : List Counter) (v u : LockWatch) (n : ℕ) → AreCountersOf list.breakpoints cs
     → HasCounted s list cs v n
-    → HasLooked v u (after (rounds (suc n) true) s) (next_in (after (rounds n true) s)) false
+    → HasLooked v u (after (rounds n true) s) (after (rounds (suc n) true) s) false
     → due_behind s cs (suc n) ≡ None
 last_none s list cs v u n all before looked =
     let parts = goes_on_parts u.has_failed u.cause looked.ended in
@@ -87,7 +88,7 @@ has_counted s list cs w v zero all lists begins same = record {
 has_counted s list cs w v (suc n) all lists begins asked =
     let x = asked.0 in
     let before : HasCounted s list cs x n = has_counted s list cs w x n all lists begins asked.1 in
-    let looked : HasLooked x v (after (rounds (suc n) true) s) (next_in (after (rounds n true) s)) false = asked.2 in
+    let looked : HasLooked x v (after (rounds n true) s) (after (rounds (suc n) true) s) false = looked_at s x v n false asked.2 in
     record {
       lists = looked.list ∙ before.lists;
       seen =
@@ -100,10 +101,9 @@ has_counted s list cs w v (suc n) all lists begins asked =
 pub counted : (s : S) (list : StopList) (cs : List Counter) (w u : LockWatch) (ran : Run) → AreCountersOf list.breakpoints cs
     → list_of w ≡ list
     → counters_of w ≡ cs
-    → (ran.by_watch ≡ true → ran.stop ≡ None)
     → (1 ≤ ran.made → IsAsked asks s w u ran)
     → IsCountedBy s list cs u ran
-counted s list cs w u ran all lists begins alone asked = by_made ran.made refl
+counted s list cs w u ran all lists begins asked = by_made ran.made refl
   where
     by_made : (n : ℕ) → ran.made ≡ n → IsCountedBy s list cs u ran
     by_made zero made = record {
@@ -118,7 +118,9 @@ counted s list cs w u ran all lists begins alone asked = by_made ran.made refl
         let v = is_asked.0 in
         let before_last : ran.made - 1 ≡ n = omega (arith, made) in
         let before : HasCounted s list cs v n =
-        has_counted s list cs w v n all lists begins (subst (λ (k : ℕ). Asked asks s w v k) before_last is_asked.1) in
+        has_counted s list cs w v n all lists begins (subst (λ (k : ℕ). Asked asks s w v k) before_last is_asked.2) in
+        let looked : HasLooked v u (after (rounds n true) s) (after (rounds (suc n) true) s) is_asked.1 =
+        last_look s w u n ran is_asked made in
         record {
           run = record {
             none = λ k less. before.none k (omega (arith, less, made));
@@ -126,12 +128,12 @@ counted s list cs w u ran all lists begins alone asked = by_made ran.made refl
                 λ none quiet.
                 ap (λ (k : ℕ). due_behind s cs k) made
                 ∙ last_none s list cs v u n all before
-                (subst (λ (b : Bool). HasLooked v u (after (rounds (suc n) true) s) (next_in (after (rounds n true) s)) b) quiet
-                (last_look s v u n ran is_asked.2 made none));
+                (subst (λ (b : Bool). HasLooked v u (after (rounds n true) s) (after (rounds (suc n) true) s) b)
+                (both-none is_asked.1 ran.stop none (sym is_asked.4 ∙ quiet)) looked);
           };
           cause =
               λ by_watch worked some.
-              (last_look s v u n ran is_asked.2 made (alone by_watch)).due worked
+              looked.due worked
               ∙ due_same s list cs v n before
               ∙ cause_is list (after (rounds (suc n) true) s) (next_in (after (rounds n true) s)) (counters_after s cs n)
               (are-after list.breakpoints s cs n all)

@@ -7,15 +7,13 @@ use Rattle.std.specs.Prelude.{Result, Ok, Err, IfOk}
 use Rattle.std.proofs.lemmas.Bool.{false≢true}
 use Rattle.machine.specs.Machine.{S, after}
 use Rattle.machine.specs.Rounds.{rounds}
-use Rattle.run_notes.specs.Words.{grants_words}
-use Rattle.ddt_timeline.specs.Histories.{History, done, machine_of, one_step}
-use Rattle.ddt_timeline.specs.Timelines.{made, played}
-use Rattle.ddt_timeline.specs.declared.entries.Entry.{Entry}
+use Rattle.run_notes.specs.FactWords.{grants_text}
+use Rattle.run_events.specs.declared.facts.Fact.{Fact}
 use Rattle.ddt_timeline.specs.Runs.{IsRun, some_go_on}
 use Rattle.ddt_timeline.specs.Stops.{met_after}
 use Rattle.ddt_timeline.specs.declared.stops.Run.{Run}
 use Rattle.ddt_timeline.specs.declared.stops.WatchedStop.{WatchedStop}
-use Rattle.ddt_moves.specs.OtherEnds.{ends_for, has_grant_behind, if_breakpoint, is_grant, lines_behind, seen_by}
+use Rattle.ddt_moves.specs.OtherEnds.{ends_for, facts_behind, facts_of, if_breakpoint, is_grant, told_cause}
 use Rattle.ddt_moves.specs.RunEnds.{IsCountedEnd, IsEnd, IsWatchEnd, cause_at_slot, stop_behind}
 use Rattle.ddt_moves.specs.RunStops.{cause_at}
 use Rattle.ddt_moves.specs.Visits.{due_behind}
@@ -63,10 +61,6 @@ not_cut false cause d some = refl
 not_cut true (Some cause) d some = refl
 not_cut true None d some = absurd (false≢true some)
 
-no_grant : (stops granted : Bool) → (stops ≡ true → granted ≡ false) → (stops && granted) ≡ false
-no_grant true granted quiet = quiet refl
-no_grant false granted quiet = refl
-
 -- ---- ends
 
 -- a run that a stop ended, or none
@@ -85,18 +79,15 @@ end_by_stop s stops list most ran end run watched quiet made cause cut =
     record {
       few = omega (arith, made, run.most);
       none_over = λ n less. none_before s stops.stops.items most ran run n (omega (arith, less, made));
-      no_grant_over = λ at_grants n less. watched.none at_grants n (omega (arith, less, made));
+      none_told_over = λ n less. watched.none n (omega (arith, less, made));
       cause =
           first_is_cause stops.causes.items (stop_behind stops.stops.items s end.made) end.cause
           (cause ∙ ap (λ (o : Option ℕ). cause_at stops.causes.items o) stop);
       besides =
           λ none.
-          ap
-          (λ (o : Option Cause). ends_for list (after (rounds end.made true) s) (list.grants && has_grant_behind s end.made) o)
-          (at_none none)
-          ∙ ap (λ (b : Bool). not b)
-          (no_grant list.grants (has_grant_behind s end.made)
-          (λ at_grants. ap (λ (n : ℕ). has_grant_behind s n) made ∙ watched.quiet at_grants (stop ∙ none) quiet));
+          ap (λ (o : Option Cause). ends_for list (after (rounds end.made true) s) (facts_behind s end.made) o) (at_none none)
+          ∙ ap (λ (o : Option Cause). is_none o)
+          (ap (λ (n : ℕ). told_cause list (facts_behind s n)) made ∙ watched.quiet (stop ∙ none) quiet);
       cut =
           cut
           ∙ ap (λ (b : Bool). b && nat_le most ran.made) (cut_parts stops.causes.items ran.stop ran.by_watch end.cause quiet cause)
@@ -122,14 +113,12 @@ end_by_watch s stops list most ran w end run watched by_watch ended =
     record {
       few = omega (arith, ended.made, run.most);
       none_over = λ n less. none_before s stops.stops.items most ran run n (omega (arith, less, ended.made));
-      no_grant_over = λ at_grants n less. watched.run.none at_grants n (omega (arith, less, ended.made));
+      none_told_over = λ n less. watched.run.none n (omega (arith, less, ended.made));
       cause = if_none (stop_behind stops.stops.items s end.made) _ none;
       besides =
           λ _.
-          ap
-          (λ (o : Option Cause). ends_for list (after (rounds end.made true) s) (list.grants && has_grant_behind s end.made) o)
-          ended.cause
-          ∙ ap (λ (n : ℕ). ends_for list (after (rounds n true) s) (list.grants && has_grant_behind s n) w.cause) ended.made
+          ap (λ (o : Option Cause). ends_for list (after (rounds end.made true) s) (facts_behind s end.made) o) ended.cause
+          ∙ ap (λ (n : ℕ). ends_for list (after (rounds n true) s) (facts_behind s n) w.cause) ended.made
           ∙ watched.cause by_watch ended.worked ended.some;
       cut =
           ended.cut ∙ not_cut (is_none (stop_behind stops.stops.items s end.made)) end.cause (nat_le most end.made) some;
@@ -175,18 +164,6 @@ counted_by_watch s cs stops list ran w end counted by_watch ended = record {
 
 -- ---- lines on grants
 
-steps_played : (n : ℕ) (s : S) → played (replicate n one_step) s ≡ after (rounds n true) s
-steps_played zero s = refl
-steps_played (suc n) s = steps_played n (after (rounds 1 true) s)
-
-played_append : (xs ys : List Entry) (s : S) → played (xs ++ ys) s ≡ played ys (played xs s)
-played_append [] ys s = refl
-played_append (x ∷ xs) ys s = played_append xs ys (made s x)
-
-machine_behind : (h new : History) (n : ℕ) → new ≡ done h (replicate n one_step) → machine_of new ≡ after (rounds n true) (machine_of h)
-machine_behind h new n same =
-    ap (λ (x : History). machine_of x) same ∙ played_append h.past (replicate n one_step) h.boot ∙ steps_played n (machine_of h)
-
 -- a run that a stop ended, or none, does not end at a grant where no stop holds
 pub not_at_grant : (s : S) (stops : RunStops) (most : ℕ) (ran : Run) (end : RunEnd) (P : Type 0) → IsRun s stops.stops.items most ran
     → end.made ≡ ran.made
@@ -200,17 +177,12 @@ not_at_grant s stops most ran end P run made cause is none =
     absurd (false≢true (sym (ap (λ (o : Option Cause). is_grant o) no_cause) ∙ is))
 
 -- the lines on what was granted behind a run that its watch ended
-pub lines_of : (h new : History) (list : StopList) (ran : Run) (w : LockWatch) (end : RunEnd) (ticks : ℕ)
-    → new ≡ done h (replicate ran.made one_step)
-    → IsWatchedBy (machine_of h) list w ran
-    → ran.by_watch ≡ true
+pub lines_of : (s : S) (list : StopList) (ran : Run) (w : LockWatch) (end : RunEnd) (ticks : ℕ) → IsWatchedBy s list w ran → ran.by_watch ≡ true
     → IsWatchEnd w ran.made end
-    → is_grant end.cause ≡ true
-    → grants_words ticks (seen_by w) (machine_of new).world.requests ≡ lines_behind ticks (machine_of h) end.made
-lines_of h new list ran w end ticks happened watched by_watch ended is =
-    ap (λ (s : S). grants_words ticks (seen_by w) s.world.requests) (machine_behind h new ran.made happened)
-    ∙ watched.lines by_watch ended.worked ended.some (sym (ap (λ (o : Option Cause). is_grant o) ended.cause) ∙ is) ticks
-    ∙ ap (λ (n : ℕ). lines_behind ticks (machine_of h) n) (sym ended.made)
+    → grants_text ticks (facts_of w) ≡ grants_text ticks (facts_behind s end.made)
+lines_of s list ran w end ticks watched by_watch ended =
+    ap (λ (l : List Fact). grants_text ticks l)
+    (watched.facts by_watch ended.worked ended.some ∙ ap (λ (n : ℕ). facts_behind s n) (sym ended.made))
 
 pub both_ok : {T E : Type 0} (r : Result T E) (P Q R : T → Type 0) → IfOk r P → IfOk r Q → ((x : T) → P x → Q x → R x) → IfOk r R
 both_ok (Ok x) P Q R p q then = then x p q

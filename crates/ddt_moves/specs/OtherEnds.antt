@@ -1,13 +1,14 @@
--- What ends a run besides its stops: grants, calls on a lock, and breakpoints that count (this project's profile).
-use Rattle.std.specs.Prelude.{◌≡◌, ◌==◌, ◌+◌, ◌-◌, ◌&&◌, ◌||◌, ℕ, zero, suc, nat_lt, Bool, true, false, is_some, not}
+-- What ends a run besides its stops: grants, circles of waits, calls on a lock, and breakpoints that count (this project's profile).
+use Rattle.std.specs.Prelude.{◌≡◌, ◌==◌, ◌+◌, ◌-◌, ◌&&◌, ◌||◌, ℕ, zero, suc, nat_lt, Bool, true, false, is_none, is_some}
 use Rattle.std.specs.Prelude.{List, [], map, slice_index_or}
 use Rattle.std.specs.Prelude.{Option, Some, None, if◌then◌else◌}
-use Rattle.lock_queue.specs.Queue.{some_behind}
-use Rattle.lock_queue.specs.declared.request.Request.{Request}
+use Rattle.std.specs.List.{list_any}
 use Rattle.machine.specs.Machine.{S, after}
 use Rattle.machine.specs.Rounds.{rounds}
-use Rattle.run_facts.specs.Grants.{is_new_grant}
-use Rattle.run_notes.specs.Words.{grants_words}
+use Rattle.machine.specs.Between.{next_in}
+use Rattle.run_events.specs.Runs.{facts_of_round}
+use Rattle.run_events.specs.declared.facts.Fact.{Fact}
+use Rattle.run_events.specs.declared.facts.Fact.TheVariants as fact
 use Rattle.ddt_timeline.specs.Stops.{is_met}
 use Rattle.ddt_timeline.specs.declared.stops.Stop.TheVariants.{At}
 use Rattle.ddt_moves.specs.declared.lock_watch.LockWatch.{LockWatch}
@@ -19,14 +20,37 @@ use Rattle.ddt_moves.specs.declared.visits.Counter.{Counter}
 use Rattle.ddt_moves.specs.LockCalls.{stands_at_lock}
 use Rattle.ddt_moves.specs.Visits.{first_due, stepped}
 
--- whether one of the requests of a state is granted there and was waiting among some others
-abbrev pub grants_since : List Request → S → Bool
-grants_since before s = some_behind (is_new_grant before) [] s.world.requests
+-- whether a fact is a grant
+abbrev pub is_granted : Fact → Bool
+is_granted (fact.Granted r) = true
+is_granted (fact.Called c) = false
+is_granted (fact.LimitEnded job id) = false
+is_granted (fact.Left r) = false
+is_granted (fact.CircleClosed job) = false
+is_granted (fact.Stopped job why) = false
+is_granted (fact.LoggedOut job) = false
 
--- whether a request was granted in the last of so many rounds from a state on: it is granted behind it and was waiting before it
-abbrev pub has_grant_behind : S → ℕ → Bool
-has_grant_behind s zero = false
-has_grant_behind s (suc n) = grants_since (after (rounds n true) s).world.requests (after (rounds (suc n) true) s)
+-- whether it is that a circle of waits closed
+abbrev pub is_closed : Fact → Bool
+is_closed (fact.CircleClosed job) = true
+is_closed (fact.Called c) = false
+is_closed (fact.LimitEnded job id) = false
+is_closed (fact.Left r) = false
+is_closed (fact.Granted r) = false
+is_closed (fact.Stopped job why) = false
+is_closed (fact.LoggedOut job) = false
+
+-- why a run ends at the facts of a round, if it does: where a circle of waits closed, or at a grant, if runs stop there
+abbrev pub told_cause : StopList → List Fact → Option Cause
+told_cause list facts =
+    if list_any is_closed facts && list.circles then Some cause.Circle
+    else if list_any is_granted facts && list.grants then Some cause.Grant
+    else None
+
+-- the facts of the last of so many rounds from a state on
+abbrev pub facts_behind : S → ℕ → List Fact
+facts_behind s zero = []
+facts_behind s (suc n) = facts_of_round (after (rounds n true) s)
 
 -- whether the job of a breakpoint stands there in a state, as the condition wants
 abbrev pub stands : S → Breakpoint → Bool
@@ -66,19 +90,19 @@ if_breakpoint (Some cause.Input) = None
 if_breakpoint (Some (cause.Call job)) = None
 if_breakpoint (Some cause.Grant) = None
 
--- whether this may be why a run ends in a state where none of its stops holds, if it ends there; whether a grant at which it stops was
--- made in its last round is given: at a breakpoint of this number that counts, where its job stands; where this job stands before
--- a call on the lock of the list; or at the grant. Where there was a grant, it ends
-abbrev pub ends_for : StopList → S → Bool → Option Cause → Bool
-ends_for list s granted None = not granted
-ends_for list s granted (Some (cause.Breakpoint number job address)) =
+-- whether this may be why a run ends in a state where none of its stops holds, if it ends there, by the facts of the round that led
+-- there: at a breakpoint of this number that counts, where its job stands; where this job stands before a call on the lock of the
+-- list; where a circle of waits closed, or at a grant, if runs stop there. Where one of these two is so, it ends
+abbrev pub ends_for : StopList → S → List Fact → Option Cause → Bool
+ends_for list s facts None = is_none (told_cause list facts)
+ends_for list s facts (Some (cause.Breakpoint number job address)) =
     counts_at s job address (slice_index_or list.breakpoints (number - 1) None)
-ends_for list s granted (Some (cause.Word job address was)) = false
-ends_for list s granted (Some cause.Circle) = false
-ends_for list s granted (Some cause.Own) = false
-ends_for list s granted (Some cause.Input) = false
-ends_for list s granted (Some (cause.Call job)) = stands_at_lock list.lock s job
-ends_for list s granted (Some cause.Grant) = granted
+ends_for list s facts (Some (cause.Word job address was)) = false
+ends_for list s facts (Some cause.Circle) = list_any is_closed facts && list.circles
+ends_for list s facts (Some cause.Own) = false
+ends_for list s facts (Some cause.Input) = false
+ends_for list s facts (Some (cause.Call job)) = stands_at_lock list.lock s job
+ends_for list s facts (Some cause.Grant) = list_any is_granted facts && list.grants
 
 -- whether a run ends at a grant
 abbrev pub is_grant : Option Cause → Bool
@@ -91,21 +115,15 @@ is_grant (Some cause.Input) = false
 is_grant (Some (cause.Call job)) = false
 is_grant (Some cause.Grant) = true
 
--- the lines on what was granted in the last of so many rounds from a state on, behind so many ticks
-abbrev pub lines_behind : ℕ → S → ℕ → List ℕ
-lines_behind ticks s zero = []
-lines_behind ticks s (suc n) =
-    grants_words ticks (after (rounds n true) s).world.requests (after (rounds (suc n) true) s).world.requests
-
 -- ---- a watch
 
 -- the user's stops that it has
 abbrev pub list_of : LockWatch → StopList
 list_of w = w.list.now
 
--- the requests that it has seen last
-abbrev pub seen_by : LockWatch → List Request
-seen_by w = w.requests.items
+-- the facts of the round that it made last
+abbrev pub facts_of : LockWatch → List Fact
+facts_of w = w.facts.items
 
 -- its breakpoints that count
 abbrev pub counters_of : LockWatch → List Counter
@@ -115,19 +133,13 @@ counters_of w = w.counters.items
 abbrev pub due_cause : LockWatch → S → Option ℕ → Option Cause
 due_cause w s ran = counted_in (list_of w) s (first_due s ran (counters_of w))
 
--- whether it stops at grants, and sees one in a state
-abbrev pub sees_grant : LockWatch → S → Bool
-sees_grant w s = (list_of w).grants && grants_since (seen_by w) s
-
--- a watch looks at a state behind a round in which a job ran, and says whether the run ends there: where it could look, it ends the
--- run exactly where it has a cause, and has one wherever it sees a grant; where the run goes on, it has seen the requests that are
--- present now, and where it ends at a grant, those before. Its counters see the round, and it ends the run at a breakpoint exactly
--- where one of them is due
-pub record HasLooked (old new : LockWatch) (s : S) (ran : Option ℕ) (is_end : Bool) : Type 0 where
+-- a watch makes a round from a state m, which leads to t, and says whether the run ends there: where it could look, it has the facts
+-- of the round, it ends the run exactly where it has a cause, and has one wherever these facts are one. Its counters see the round,
+-- and it ends the run at a breakpoint exactly where one of them is due
+pub record HasLooked (old new : LockWatch) (m t : S) (is_end : Bool) : Type 0 where
   pub list : list_of new ≡ list_of old
   pub ended : is_end ≡ (new.has_failed || is_some new.cause)
-  pub cause : new.has_failed ≡ false → ends_for (list_of old) s (sees_grant old s) new.cause ≡ true
-  pub seen : is_end ≡ false → (list_of old).grants ≡ true → seen_by new ≡ s.world.requests
-  pub kept : new.has_failed ≡ false → is_grant new.cause ≡ true → seen_by new ≡ seen_by old
-  pub counters : counters_of new ≡ map (stepped s ran) (counters_of old)
-  pub due : new.has_failed ≡ false → if_breakpoint new.cause ≡ due_cause old s ran
+  pub facts : new.has_failed ≡ false → facts_of new ≡ facts_of_round m
+  pub cause : new.has_failed ≡ false → ends_for (list_of old) t (facts_of_round m) new.cause ≡ true
+  pub counters : counters_of new ≡ map (stepped t (next_in m)) (counters_of old)
+  pub due : new.has_failed ≡ false → if_breakpoint new.cause ≡ due_cause old t (next_in m)

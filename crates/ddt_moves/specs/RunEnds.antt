@@ -5,7 +5,7 @@ use Rattle.machine.specs.Rounds.{rounds}
 use Rattle.ddt_timeline.specs.Runs.{some_go_on}
 use Rattle.ddt_timeline.specs.Stops.{met_after}
 use Rattle.ddt_timeline.specs.declared.stops.WatchedStop.{WatchedStop}
-use Rattle.ddt_moves.specs.OtherEnds.{ends_for, has_grant_behind, if_breakpoint}
+use Rattle.ddt_moves.specs.OtherEnds.{ends_for, facts_behind, if_breakpoint, told_cause}
 use Rattle.ddt_moves.specs.Starts.{cause_in}
 use Rattle.ddt_moves.specs.Visits.{due_behind}
 use Rattle.ddt_moves.specs.declared.run_stops.Cause.{Cause}
@@ -20,18 +20,18 @@ abbrev pub stop_behind : List WatchedStop → S → ℕ → Option ℕ
 stop_behind stops s zero = None
 stop_behind stops s (suc n) = met_after stops (after (rounds n true) s)
 
--- a run from a state on, to some stops and to what the user's stops have besides, of at most so many rounds: behind none of its rounds
--- but the last did a stop hold, nor was a request granted where runs stop at grants; where a stop holds behind the last one, the
--- first that does is the cause, and else what is to end it besides; it is cut where it has no cause and made as many rounds as it
--- may; and where it has none and made fewer, no job goes on
+-- a run from a state on, to some stops and to what the user's stops have besides, of at most so many rounds: after none of its rounds
+-- but the last did a stop hold, and the facts of none ended it; where a stop holds after the last one, the first that does is the
+-- cause, and else what is to end it besides; it is cut where it has no cause and made as many rounds as it may; and where it has none
+-- and made fewer, no job goes on
 pub record IsEnd (s : S) (stops : RunStops) (list : StopList) (most : ℕ) (end : RunEnd) : Type 0 where
   pub few : end.made ≤ most
   pub none_over : (n : ℕ) → n < end.made → stop_behind stops.stops.items s n ≡ None
-  pub no_grant_over : list.grants ≡ true → (n : ℕ) → n < end.made → has_grant_behind s n ≡ false
+  pub none_told_over : (n : ℕ) → n < end.made → told_cause list (facts_behind s n) ≡ None
   pub cause : IfSome (stop_behind stops.stops.items s end.made) (λ i. end.cause ≡ slice_get stops.causes.items i)
   pub besides :
       stop_behind stops.stops.items s end.made ≡ None
-      → ends_for list (after (rounds end.made true) s) (list.grants && has_grant_behind s end.made) end.cause ≡ true
+      → ends_for list (after (rounds end.made true) s) (facts_behind s end.made) end.cause ≡ true
   pub cut : end.is_cut ≡ ((is_none (stop_behind stops.stops.items s end.made) && is_none end.cause) && nat_le most end.made)
   pub ends :
       end.made < most → stop_behind stops.stops.items s end.made ≡ None → end.cause ≡ None

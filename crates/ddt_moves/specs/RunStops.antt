@@ -5,7 +5,7 @@ use Rattle.std.specs.List.{flat_map}
 use Rattle.machine.specs.Machine.{S}
 use Rattle.machine.specs.Views.{word_in}
 use Rattle.ddt_timeline.specs.declared.stops.Stop.{Stop}
-use Rattle.ddt_timeline.specs.declared.stops.Stop.TheVariants.{At, Turn, End, Word, Circle, Input}
+use Rattle.ddt_timeline.specs.declared.stops.Stop.TheVariants.{At, Turn, End, Word, Input}
 use Rattle.ddt_timeline.specs.declared.stops.WatchedStop.{WatchedStop}
 use Rattle.ddt_moves.specs.declared.run_stops.Cause.{Cause}
 use Rattle.ddt_moves.specs.declared.run_stops.Cause.TheVariants as cause
@@ -31,14 +31,9 @@ stop_at None = []
 abbrev pub stop_of_word : S → WatchedWord → Stop
 stop_of_word s w = Word w.job w.address (word_in s.world w.job w.address)
 
--- the stop of circles, where runs stop there
-abbrev pub stop_of_circles : Bool → List Stop
-stop_of_circles true = Circle ∷ []
-stop_of_circles false = []
-
--- the stops of the user's tables: the breakpoints of all jobs that stop each time, the watched words as they are now, and circles
+-- the stops of the user's tables: the breakpoints of all jobs that stop each time, and the watched words as they are now
 abbrev pub stops_in : S → StopList → List Stop
-stops_in s list = flat_map stop_at list.breakpoints ++ map (stop_of_word s) list.words.items ++ stop_of_circles list.circles
+stops_in s list = flat_map stop_at list.breakpoints ++ map (stop_of_word s) list.words.items
 
 -- ---- why a run stopped
 
@@ -48,7 +43,6 @@ cause_of number (At job address condition) = if nat_lt 0 number then cause.Break
 cause_of number (Turn job) = cause.Own
 cause_of number (End job) = cause.Own
 cause_of number (Word job address was) = cause.Word job address was
-cause_of number Circle = cause.Circle
 cause_of number Input = cause.Input
 
 -- those of the stops of some breakpoints, numbered from this number on
@@ -60,7 +54,6 @@ causes_from number (b ∷ later) = map (cause_of number) (stop_at b) ++ causes_f
 abbrev pub causes_in : S → StopList → List Cause
 causes_in s list =
     causes_from 1 list.breakpoints ++ map (cause_of 0) (map (stop_of_word s) list.words.items)
-    ++ map (cause_of 0) (stop_of_circles list.circles)
 
 -- the one of the stop at a position, if a stop ended the run
 abbrev pub cause_at : List Cause → Option ℕ → Option Cause

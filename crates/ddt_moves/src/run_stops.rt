@@ -2,7 +2,7 @@
 ghost use Rattle.std.specs.Prelude.{◌≡◌, ◌++◌, [], ◌∷◌, IfOk, OnOk, map};
 ghost use Rattle.std.specs.List.{flat_map};
 ghost use Rattle.ddt_moves.specs.RunStops.{cause_at, cause_of, causes_from, causes_in};
-ghost use Rattle.ddt_moves.specs.RunStops.{stop_at, stop_if_each, stop_of_circles, stop_of_word, stops_in, watched};
+ghost use Rattle.ddt_moves.specs.RunStops.{stop_at, stop_if_each, stop_of_word, stops_in, watched};
 
 use crate::stop_lists::{Breakpoint, StopList, WatchedWord};
 use concrete_machine::Machine;
@@ -17,7 +17,7 @@ pub enum Cause {
     Breakpoint(usize, u8, u32),
     /// A watched word of a job changed: the job, the address, and the word before.
     Word(u8, u32, Option<Word>),
-    /// Jobs wait in a circle.
+    /// A circle of waits closed.
     Circle,
     /// The command's own stop: the open job had its turn, its call returned, or it ended.
     Own,
@@ -54,7 +54,6 @@ fn cause_of(number: usize, stop: &Stop) -> Cause
         }
         Stop::Turn(_) | Stop::End(_) => Cause::Own,
         Stop::Word(job, address, was) => Cause::Word(job, address, was),
-        Stop::Circle => Cause::Circle,
         Stop::Input => Cause::Input,
     }
 }
@@ -145,18 +144,6 @@ impl RunStops {
         Ok(())
     }
 
-    /// Adds the stop of circles, where runs stop there.
-    fn add_circles(&mut self, circles: bool) -> Result<(), AllocError>
-        ensures stops { OnOk result (self.new.stops.items ≡ self.old.stops.items ++ map watched (stop_of_circles circles)) }
-        ensures causes { OnOk result (self.new.causes.items ≡ self.old.causes.items ++ map (cause_of 0) (stop_of_circles circles)) }
-    {
-        if circles {
-            self.add(Stop::Circle, 0)
-        } else {
-            Ok(())
-        }
-    }
-
     /// Why a run stopped that the stop at this position ended, if one did.
     pub fn cause(&self, stop: Option<usize>) -> Option<Cause>
         ensures { result ≡ cause_at self.now.causes.items stop }
@@ -186,6 +173,5 @@ pub fn stops_of(
     stops.add_own(own)?;
     stops.add_breakpoints(&list.breakpoints)?;
     stops.add_words(machine, list.words.as_slice())?;
-    stops.add_circles(list.circles)?;
     Ok(stops)
 }

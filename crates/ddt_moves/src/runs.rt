@@ -1,11 +1,11 @@
 //! Runs up to the first stop.
 ghost use Rattle.std.specs.Prelude.{◌≡◌, ◌&&◌, IfOk, None, OnOk, false, is_none, min, nat_le, not, replicate, string_bytes, true};
-ghost use Rattle.run_notes.specs.Words.{grants_words};
+ghost use Rattle.run_notes.specs.FactWords.{grants_text};
 ghost use Rattle.ddt_timeline.specs.Histories.{done, machine_of, one_step};
 ghost use Rattle.ddt_timeline.specs.Stops.{stops_of};
 ghost use Rattle.ddt_timeline.specs.Timelines.{ticks_in};
 ghost use Rattle.ddt_timeline.specs.Views.{history};
-ghost use Rattle.ddt_moves.specs.OtherEnds.{is_grant, lines_behind, seen_by};
+ghost use Rattle.ddt_moves.specs.OtherEnds.{facts_behind, facts_of, is_grant};
 ghost use Rattle.ddt_moves.specs.RunEnds.{IsCountedEnd, IsEnd, IsWatchEnd, stop_behind};
 ghost use Rattle.ddt_moves.specs.RunStops.{cause_at};
 ghost use Rattle.ddt_moves.specs.Visits.{counters};
@@ -72,7 +72,7 @@ pub fn run_to(
     ensures lines { IfOk result (λ end. is_grant end.cause ≡ true
         → stop_behind stops.old.stops.items (machine_of (history timeline.old)) end.made ≡ None
         → string_bytes grants.new
-        ≡ lines_behind (min u64.MAX (ticks_in (history timeline.new).past)) (machine_of (history timeline.old)) end.made) }
+        ≡ grants_text (min u64.MAX (ticks_in (history timeline.new).past)) (facts_behind (machine_of (history timeline.old)) end.made)) }
     ensures stops { stops_of stops.new.stops.items ≡ stops_of stops.old.stops.items }
     ensures causes { stops.new.causes ≡ stops.old.causes }
 {
@@ -88,7 +88,8 @@ pub fn run_to(
     Ok(RunEnd::of(stops, ran, most))
 }
 
-/// Makes steps as `run_to` does, and stops at breakpoints that count, at grants and before calls on a lock.
+/// Makes steps as `run_to` does, and stops at breakpoints that count, where a circle of waits closes, at grants, and before calls
+/// on a lock.
 fn run_watched(
     timeline: &mut Timeline,
     stops: &mut RunStops,
@@ -103,7 +104,7 @@ fn run_watched(
     ensures lines { IfOk result (λ end. is_grant end.cause ≡ true
         → stop_behind stops.old.stops.items (machine_of (history timeline.old)) end.made ≡ None
         → string_bytes grants.new
-        ≡ lines_behind (min u64.MAX (ticks_in (history timeline.new).past)) (machine_of (history timeline.old)) end.made) }
+        ≡ grants_text (min u64.MAX (ticks_in (history timeline.new).past)) (facts_behind (machine_of (history timeline.old)) end.made)) }
     ensures stops { stops_of stops.new.stops.items ≡ stops_of stops.old.stops.items }
     ensures causes { stops.new.causes ≡ stops.old.causes }
 {
@@ -130,17 +131,13 @@ fn ended_by(
 ) -> Result<RunEnd, AllocError>
     ensures end { IfOk result (λ end. IsWatchEnd watch.now made end) }
     ensures lines { OnOk result (string_bytes grants.new
-        ≡ grants_words (min u64.MAX (ticks_in (history timeline.now).past)) (seen_by watch.now)
-        (machine_of (history timeline.now)).world.requests) }
+        ≡ grants_text (min u64.MAX (ticks_in (history timeline.now).past)) (facts_of watch.now)) }
 {
-    // A watch is asked behind a step, so it ends no run before the first.
+    // A watch makes a round before it ends a run.
     if watch.has_failed || made == 0 {
         return Err(AllocError);
     }
-    let (alloc, ticks) = (timeline.alloc(), timeline.ticks());
-    let requests = timeline.machine().requests(alloc)?;
-    let before = watch.requests.as_slice();
-    *grants = grant_lines(alloc, ticks, before, requests.as_slice())?;
+    *grants = grant_lines(timeline.alloc(), timeline.ticks(), watch.facts.as_slice())?;
     Ok(RunEnd {
         made,
         cause: watch.cause,

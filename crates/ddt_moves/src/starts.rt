@@ -170,7 +170,7 @@ fn other_cause(
     last: u8,
     list: &StopList,
 ) -> Result<Option<Cause>, AllocError>
-    ensures ends { IfOk result (λ cause. ends_for list.now (machine_of (history timeline.now)) false cause ≡ true) }
+    ensures ends { IfOk result (λ cause. ends_for list.now (machine_of (history timeline.now)) [] cause ≡ true) }
     ensures counted { IfOk result (λ cause.
         IfSome (first_due_at_start first last (counters (history timeline.now) list.now))
         (λ slot. cause ≡ counted_cause list.now (machine_of (history timeline.now)) slot)) }
@@ -199,7 +199,7 @@ pub fn cause_at_start(
         (λ slot. cause ≡ cause_in list.now.breakpoints slot)) }
     ensures besides { IfOk result (λ cause.
         position (holds_at_start (machine_of (history timeline.now)) first last) list.now.breakpoints ≡ None
-        → ends_for list.now (machine_of (history timeline.now)) false cause ≡ true) }
+        → ends_for list.now (machine_of (history timeline.now)) [] cause ≡ true) }
     ensures counted { IfOk result (λ cause.
         position (holds_at_start (machine_of (history timeline.now)) first last) list.now.breakpoints ≡ None
         → IfSome (first_due_at_start first last (counters (history timeline.now) list.now))

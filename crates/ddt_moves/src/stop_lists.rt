@@ -168,7 +168,7 @@ pub struct StopList {
     pub breakpoints: [Option<Breakpoint>; BREAKPOINTS],
     /// The words that are watched.
     pub words: ArrayVec<WatchedWord, BREAKPOINTS>,
-    /// Whether runs stop where jobs wait in a circle: `.BREAK CIRCLE`.
+    /// Whether runs stop where a circle of waits closes: `.BREAK CIRCLE`.
     pub circles: bool,
     /// The lock before whose calls runs stop, if there is one: `.BREAK LOCK`.
     pub lock: Option<Name>,
@@ -232,11 +232,11 @@ impl StopList {
         some_count(&self.breakpoints)
     }
 
-    /// Whether runs end at more than stops: at grants, before calls on a lock, or at breakpoints that count.
+    /// Whether runs end at more than stops: at circles of waits, at grants, before calls on a lock, or at breakpoints that count.
     pub(crate) fn needs_watch(&self) -> bool
-        ensures { result ≡ ((self.now.grants || is_some self.now.lock) || list_any counts self.now.breakpoints) }
+        ensures { result ≡ (((self.now.circles || self.now.grants) || is_some self.now.lock) || list_any counts self.now.breakpoints) }
     {
-        self.grants || self.lock.is_some() || self.counts()
+        self.circles || self.grants || self.lock.is_some() || self.counts()
     }
 
     /// Clears the breakpoint of a number from 1 to 8; false where it was not set.

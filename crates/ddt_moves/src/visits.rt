@@ -1,6 +1,7 @@
 //! Breakpoints that count how often their jobs come to them.
 
-ghost use Rattle.std.specs.Prelude.{◌≡◌, ◌++◌, Bool, IfOk, IfSome, OnOk, map, true};
+ghost use Rattle.run_events.specs.declared.facts.Fact.{Fact as FactView};
+ghost use Rattle.std.specs.Prelude.{◌≡◌, ◌++◌, List, IfOk, IfSome, OnOk, map, true};
 ghost use Rattle.ddt_timeline.specs.Views.{history};
 ghost use Rattle.ddt_moves.specs.OtherEnds.{counted_cause, ends_for, stands};
 ghost use Rattle.ddt_moves.specs.StopLists.{or_slot};
@@ -128,7 +129,7 @@ pub fn stands(machine: &Machine, breakpoint: &Breakpoint) -> bool
 
 /// Why a run ends at the breakpoint in a slot, if it is set and counts, and its job stands there.
 pub fn counted_cause(machine: &Machine, list: &StopList, slot: usize) -> Option<Cause>
-    ensures ends { IfSome result (λ cause. (granted : Bool) → ends_for list.now machine.now granted (Some cause) ≡ true) }
+    ensures ends { IfSome result (λ cause. (facts : List FactView) → ends_for list.now machine.now facts (Some cause) ≡ true) }
     ensures cause { result ≡ counted_cause list.now machine.now slot }
 {
     // A cause may hold a word: the prover wants its type to be named.

@@ -14,7 +14,7 @@ use Rattle.machine.specs.declared.view.JobView.{JobView}
 use Rattle.ddt_timeline.specs.Stops.{fits, has_pc, is_at, is_at_one_of, is_job, is_met, is_met_at, is_within, noted, met_after, round, stands_at}
 use Rattle.ddt_timeline.specs.declared.stops.WatchedStop.{WatchedStop}
 use Rattle.ddt_timeline.specs.declared.stops.Stop.{Stop}
-use Rattle.ddt_timeline.specs.declared.stops.Stop.TheVariants.{At, Turn, End, Word, Circle, Input}
+use Rattle.ddt_timeline.specs.declared.stops.Stop.TheVariants.{At, Turn, End, Word, Input}
 use Rattle.ddt_timeline.proofs.RunLemmas.{rounds-one_more}
 
 -- where a job stands
@@ -75,7 +75,6 @@ stop-same addresses job m u t (At n a c) within near =
 stop-same addresses job m u t (Turn n) within near = absurd (false≢true within)
 stop-same addresses job m u t (End n) within near = absurd (false≢true within)
 stop-same addresses job m u t (Word n a w) within near = absurd (false≢true within)
-stop-same addresses job m u t Circle within near = absurd (false≢true within)
 stop-same addresses job m u t Input within near = absurd (false≢true within)
 
 not-there : (addresses : List ℕ) (a : ℕ) (o : Option ℕ) → is_among addresses a ≡ true → does_end (is_among addresses) o ≡ false → pc_is o a ≡ false
@@ -103,7 +102,6 @@ stop-none addresses job u t (At n a c) within near none =
 stop-none addresses job u t (Turn n) within near none = absurd (false≢true within)
 stop-none addresses job u t (End n) within near none = absurd (false≢true within)
 stop-none addresses job u t (Word n a w) within near none = absurd (false≢true within)
-stop-none addresses job u t Circle within near none = absurd (false≢true within)
 stop-none addresses job u t Input within near none = absurd (false≢true within)
 
 -- all stops

@@ -1,4 +1,3 @@
-pub mod CircleLemmas
 pub mod RunLemmas
 pub mod AtOnce
 pub mod GoingOn

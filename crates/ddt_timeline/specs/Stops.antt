@@ -4,8 +4,6 @@ use Rattle.std.specs.Prelude.{List, Option, Some, None, map, position}
 use Rattle.word36.specs.declared.sizes.TheConstants.{JOBS}
 use Rattle.ddt_breakpoints.specs.Conditions.{holds_of}
 use Rattle.ddt_breakpoints.specs.declared.conditions.Condition.{Condition}
-use Rattle.lock_queue.specs.Jobs.{waits_for}
-use Rattle.lock_queue.specs.Waits.{is_in_circle}
 use Rattle.job_sched.specs.declared.job.Wait.{Wait}
 use Rattle.job_sched.specs.declared.job.Wait.TheVariants.{None as Nothing, Sleep, Char, Line, Room, Queue}
 use Rattle.machine.specs.Between.{is_among, next_in}
@@ -17,7 +15,7 @@ use Rattle.machine.specs.declared.event.Answer.TheVariants.{Ran, Idle, Done, Tex
 use Rattle.machine.specs.declared.view.JobView.{JobView}
 use Rattle.ddt_timeline.specs.declared.stops.WatchedStop.{WatchedStop}
 use Rattle.ddt_timeline.specs.declared.stops.Stop.{Stop}
-use Rattle.ddt_timeline.specs.declared.stops.Stop.TheVariants.{At, Turn, End, Word, Circle, Input}
+use Rattle.ddt_timeline.specs.declared.stops.Stop.TheVariants.{At, Turn, End, Word, Input}
 
 -- the job that ran, by the answer to a step
 abbrev pub ran_of : Answer → Option ℕ
@@ -59,10 +57,6 @@ is_word (Some a) None = false
 is_word None (Some b) = false
 is_word None None = true
 
--- whether a job waits in a circle of jobs that wait for each other
-abbrev pub waits_in_circle : S → ℕ → Bool
-waits_in_circle s job = nat_le job JOBS && is_in_circle (waits_for s.world.requests) job
-
 -- whether a wait is for characters
 abbrev pub is_input : Wait → Bool
 is_input Nothing = false
@@ -77,11 +71,6 @@ abbrev pub waits_for_input : Option JobView → Bool
 waits_for_input (Some view) = is_input view.wait
 waits_for_input None = false
 
--- whether the job that ran waits in a circle
-abbrev pub is_some_in_circle : S → Option ℕ → Bool
-is_some_in_circle s (Some job) = waits_in_circle s job
-is_some_in_circle s None = false
-
 -- whether the job that ran waits for characters
 abbrev pub does_some_wait_for_input : S → Option ℕ → Bool
 does_some_wait_for_input s (Some job) = waits_for_input (job_view s.world job)
@@ -93,7 +82,6 @@ is_at s (At job address condition) = has_pc (job_view s.world job) address
 is_at s (Turn job) = false
 is_at s (End job) = false
 is_at s (Word job address word) = false
-is_at s Circle = false
 is_at s Input = false
 
 -- whether a job came to an address in a round, where stood says whether its PC was there before: it stands there, and it had
@@ -108,13 +96,12 @@ fits s job None = true
 
 -- whether a stop holds after a round in which a job ran, where stood is for has_come: the job came to the address, and the
 -- condition holds there; or it had its turn; or it had its turn and is stopped or gone; or the word is another; or the job
--- that ran waits in a circle; or it waits for characters
+-- that ran waits for characters
 abbrev pub is_met : Bool → S → Option ℕ → Stop → Bool
 is_met stood s ran (At job address condition) = has_come stood ran job (stands_at (job_view s.world job) address) && fits s job condition
 is_met stood s ran (Turn job) = is_job ran job
 is_met stood s ran (End job) = is_job ran job && has_ended (job_view s.world job)
 is_met stood s ran (Word job address word) = not (is_word (word_in s.world job address) word)
-is_met stood s ran Circle = is_some_in_circle s ran
 is_met stood s ran Input = does_some_wait_for_input s ran
 
 -- a stop before a round, with whether the PC of its job is at its address now
@@ -139,7 +126,6 @@ is_at_one_of addresses (At job address condition) = is_among addresses address
 is_at_one_of addresses (Turn job) = false
 is_at_one_of addresses (End job) = false
 is_at_one_of addresses (Word job address word) = false
-is_at_one_of addresses Circle = false
 is_at_one_of addresses Input = false
 
 abbrev pub is_within : List ℕ → WatchedStop → Bool

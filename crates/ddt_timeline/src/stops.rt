@@ -1,12 +1,12 @@
 //! Runs of steps, up to the first after which a stop holds.
 ghost use Rattle.std.specs.List.{list_all};
-ghost use Rattle.std.specs.Prelude.{◌≡◌, ◌+◌, ◌-◌, ◌<◌, ◌≤◌, Bool, None, OnSome, false, is_some, map, position, true};
+ghost use Rattle.std.specs.Prelude.{◌≡◌, ◌+◌, ◌-◌, ◌<◌, ◌≤◌, ◌&&◌, ℕ, Bool, None, false, is_none, is_some, map, position, true};
 ghost use Rattle.machine.specs.Machine.{after};
 ghost use Rattle.machine.specs.Rounds.{rounds};
-ghost use Rattle.machine.specs.Between.{is_among, next_in};
+ghost use Rattle.machine.specs.Between.{Between, is_among, next_in};
 ghost use Rattle.ddt_timeline.specs.Stops.{fits, ran_of, round, has_ended, has_pc, is_at, is_at_one_of, is_input};
 ghost use Rattle.ddt_timeline.specs.Stops.{is_met, is_met_at, is_within};
-ghost use Rattle.ddt_timeline.specs.Stops.{is_word, noted, met_after, stands_at, waits_for_input, waits_in_circle};
+ghost use Rattle.ddt_timeline.specs.Stops.{is_word, noted, met_after, stands_at, waits_for_input};
 ghost use Rattle.ddt_timeline.specs.Asking.{IsAsked};
 ghost use Rattle.ddt_timeline.specs.Runs.{IsRun, SomeGoesOn, can_run, ends_by_ticks, goes_on, is_no_wait, some_go_on};
 ghost use Rattle.machine.specs.Views.{job_view};
@@ -14,8 +14,7 @@ ghost use Rattle.machine.specs.Views.{job_view};
 use concrete_machine::Machine;
 use ddt_breakpoints::Condition;
 use job_sched::Wait;
-use monitor::{Answer, Event};
-use wait_graph::is_in_circle;
+use monitor::{Answer, Event, Rounds};
 use word36::{Address, Image, JOBS, Word};
 
 /// Where a run stops.
@@ -31,8 +30,6 @@ pub enum Stop {
     End(u8),
     /// The word of a job at an address is no longer this one, which is `None` where the address is not legal.
     Word(u8, u32, Option<Word>),
-    /// A job had its turn and waits in a circle of jobs that wait for each other.
-    Circle,
     /// A job had its turn and waits for characters.
     Input,
 }
@@ -54,17 +51,18 @@ pub trait Watch {
     /// Whether it looks at each round.
     ghost looks: { Self → Bool };
 
-    /// How a watch changes where it is asked after a round, by the state that the round left and the job that ran in it, if
-    /// one did; and whether the watch ends the run there.
-    ghost Asks: { Self → Self → S → Option ℕ → Bool → Type 0 };
+    /// How a watch changes by a round that begins in a state, and whether it ends the run after that.
+    ghost Asks: { Self → Self → S → Bool → Type 0 };
 
     /// Whether it looks at each round; where it does not, many rounds may be made at once, and it ends no run.
     fn looks_at_rounds(&self) -> bool
         ensures { result ≡ looks self.now };
 
-    /// Whether the run ends after a round in which this job ran, if one did.
-    fn ends_run(&mut self, machine: &Machine, ran: Option<u8>) -> bool
-        ensures { Asks self.old self.new machine.now ran result };
+    /// Makes a round, and gives the job that ran in it, if one did, and whether the run ends after it.
+    fn make_round(&mut self, machine: &mut Machine) -> (Option<u8>, bool)
+        ensures state { machine.new ≡ round machine.old }
+        ensures ran { result.0 ≡ next_in machine.old }
+        ensures asked { Asks self.old self.new machine.old result.1 };
 }
 
 /// A watch that ends no run.
@@ -74,7 +72,7 @@ pub struct NoWatch;
 impl Watch for NoWatch {
     ghost looks = { λ watch. false };
 
-    ghost Asks = { λ old new s ran ends. ends ≡ false };
+    ghost Asks = { λ old new s ends. ends ≡ false };
 
     #[inline(always)]
     fn looks_at_rounds(&self) -> bool {
@@ -82,8 +80,8 @@ impl Watch for NoWatch {
     }
 
     #[inline(always)]
-    fn ends_run(&mut self, _machine: &Machine, _ran: Option<u8>) -> bool {
-        false
+    fn make_round(&mut self, machine: &mut Machine) -> (Option<u8>, bool) {
+        (round(machine), false)
     }
 }
 
@@ -131,17 +129,6 @@ fn is_word(word: Option<Word>, other: Option<Word>) -> bool
         (None, None) => true,
         _ => false,
     }
-}
-
-/// Whether a job waits in a circle of jobs that wait for each other.
-#[inline(never)]
-#[tactic(auto, using(crate::proofs::CircleLemmas::circle_in))]
-fn waits_in_circle(machine: &Machine, job: u8) -> bool
-    ensures { result ≡ waits_in_circle machine.now job }
-{
-    let waiting = machine.waiting_jobs();
-    let pairs = machine.pair_table(&waiting);
-    job <= JOBS && is_in_circle(&pairs, &waiting, usize::from(job))
 }
 
 /// Whether a wait is for characters.
@@ -260,10 +247,6 @@ fn is_met(machine: &Machine, ran: Option<u8>, stop: &Stop, stood: bool) -> bool
         Stop::Turn(job) => ran == Some(job),
         Stop::End(job) => ran == Some(job) && has_ended(machine, job),
         Stop::Word(job, address, word) => !is_word(machine.peek(job, address), word),
-        Stop::Circle => match ran {
-            Some(job) => waits_in_circle(machine, job),
-            None => false,
-        },
         Stop::Input => match ran {
             Some(job) => waits_for_input(machine, job),
             None => false,
@@ -386,14 +369,12 @@ fn are_within(addresses: &[Address], stops: &[WatchedStop]) -> bool
     true
 }
 
-/// How many rounds of a job may be made at once: any number where all stops are at some of these addresses and no watch looks
-/// at each round, and one otherwise.
-fn most_at_once(addresses: &[Address], stops: &[WatchedStop], is_watched: bool) -> u32
+/// How many rounds of a job may be made at once: any number where all stops are at some of these addresses, and one otherwise.
+fn most_at_once(addresses: &[Address], stops: &[WatchedStop]) -> u32
     ensures least { 1 ≤ result }
     ensures many { 2 ≤ result → list_all (is_within addresses.now) stops.now ≡ true }
-    ensures watched { is_watched ≡ true → result ≡ 1 }
 {
-    if !is_watched && are_within(addresses, stops) {
+    if are_within(addresses, stops) {
         u32::MAX
     } else {
         1
@@ -430,25 +411,39 @@ fn may_go_on(machine: &Machine, ran: &Run, most: u32, is_ready: bool) -> bool
     is_ready || some_go_on(machine)
 }
 
-/// Whether a watch ends a run after a round in which a job ran: it does not where it does not look at each round, or where a
-/// stop ended the run.
-#[inline(always)]
-fn is_ended_by<W: Watch>(
-    watch: &mut W,
-    machine: &Machine,
-    job: Option<u8>,
-    is_watched: bool,
-    stop: Option<usize>,
-) -> bool
-    ensures watched { result ≡ true → is_watched ≡ true }
-    ensures quiet { result ≡ true → stop ≡ None }
-    ensures asked { is_watched ≡ true → stop ≡ None → W.Asks watch.old watch.new machine.now job result }
-    ensures unasked { OnSome stop (watch.new ≡ watch.old) }
+/// Whether a watch ends a run, where it would and a stop may hold: a stop comes first.
+fn is_ended_by(ends: bool, stop: Option<usize>) -> bool
+    ensures { result ≡ (ends && is_none stop) }
 {
-    if !is_watched || stop.is_some() {
-        return false;
+    ends && stop.is_none()
+}
+
+/// Makes the next rounds: one by the watch, where it looks at each round, and else 1 to `most` of the job that is next, up to
+/// the first after which its PC is one of `addresses`. Gives them, and whether the watch ends the run after them.
+#[inline(always)]
+fn make_rounds<W: Watch>(
+    machine: &mut Machine,
+    watch: &mut W,
+    is_watched: bool,
+    most: u32,
+    addresses: &[Address],
+) -> (Rounds, bool)
+    requires { 1 ≤ most }
+    ensures state { machine.new ≡ after (rounds result.0.made true) machine.old }
+    ensures next { next_in machine.old ≡ result.0.job }
+    ensures least { 1 ≤ result.0.made }
+    ensures most { result.0.made ≤ most }
+    ensures between { (k : ℕ) → 1 ≤ k → k < result.0.made
+        → Between machine.old (after (rounds k true) machine.old) result.0.job (is_among addresses.now) }
+    ensures one { is_watched ≡ true → result.0.made ≡ 1 }
+    ensures asked { is_watched ≡ true → W.Asks watch.old watch.new machine.old result.1 }
+    ensures quiet { is_watched ≡ false → result.1 ≡ false }
+{
+    if is_watched {
+        let (job, ends) = watch.make_round(machine);
+        return (Rounds { made: 1, job }, ends);
     }
-    watch.ends_run(machine, job)
+    (machine.rounds_to(most, addresses), false)
 }
 
 /// Makes steps, each followed by a tick, until a stop holds, the watch ends the run, no job can go on, or `most` are made.
@@ -468,7 +463,7 @@ pub fn run_until<W: Watch>(
     ensures asked { W.looks watch.old ≡ true → 1 ≤ result.made → IsAsked W.Asks machine.old watch.old watch.new result }
 {
     let is_watched = watch.looks_at_rounds();
-    let at_once = most_at_once(addresses, stops, is_watched);
+    let at_once = most_at_once(addresses, stops);
     let mut ran = Run {
         made: 0,
         stop: None,
@@ -478,10 +473,10 @@ pub fn run_until<W: Watch>(
     note_stood(machine, stops);
     while may_go_on(machine, &ran, most, is_ready) {
         let next = most_next(at_once, is_ready, most - ran.made);
-        let rounds = machine.rounds_to(next, addresses);
+        let (rounds, ends) = make_rounds(machine, watch, is_watched, next, addresses);
         ran.made += rounds.made;
         ran.stop = first_met(machine, rounds.job, stops);
-        ran.by_watch = is_ended_by(watch, machine, rounds.job, is_watched, ran.stop);
+        ran.by_watch = is_ended_by(ends, ran.stop);
         is_ready = can_run_again(machine, rounds.job);
         note_stood(machine, stops);
     }

@@ -12,7 +12,7 @@ use Rattle.ka_isa.specs.declared.Family.TheVariants.{Byte, Move, Movs, Movn, Mov
 use Rattle.ka_isa.specs.declared.Family.TheVariants.{Push, Pop, Popj, Jsr, Jsp, Jsa, Jra, Add, Sub, Compare, JumpOn, SkipOn, Boolean, Half, Test, Calli}
 use Rattle.ka_isa.specs.declared.Family.TheVariants.{Ttcall, Other}
 use Rattle.word36.specs.Words.{right_half, is_negative}
-use Rattle.ka_cpu.specs.declared.limits.TheConstants.{MOST_LINKS}
+use Rattle.ka_cpu.specs.declared.limits.TheConstants.{MOST_EXECUTES, MOST_LINKS}
 use Rattle.ka_cpu.specs.Addresses.{Target, target_of, target_from, is_indirect, direct_address, index_of, reading, at_target}
 use Rattle.ka_cpu.specs.Blocks.{Store, stored, moved_words, blt_after, all_legal}
 use Rattle.ka_word.specs.Bytes.{byte_of, deposited, incremented}
@@ -22,7 +22,7 @@ use Rattle.ka_cpu.specs.Bytes.{byte_after, with_pointer, behind_pointer, byte_do
 use Rattle.ka_cpu.specs.Effects.{After, Effect, Ending, Goes_on, Calls, Halts, Overruns, EndsAs, outcome_of, stopped, finished, applied, core_memory, ac_memory}
 use Rattle.ka_cpu.specs.Effects.{ac_put, memory_legal, next_ac, a_of, goes_on, goes_to, moved_to, moved_operand, computed_to}
 use Rattle.ka_state.specs.Registers.{next_pc}
-use Rattle.ka_cpu.specs.Exec.{op_of, ac_field, is_listed, row_of, carried_out, at_address, performed, word_performed, exec}
+use Rattle.ka_cpu.specs.Exec.{op_of, ac_field, is_listed, row_of, carried_out, at_address, performed, word_behind, word_performed, exec, exec_word}
 use Rattle.ka_cpu.specs.Moves.{move_row, transferred, exch_row, negates}
 use Rattle.ka_cpu.specs.declared.moves.Transfer.{Transfer}
 use Rattle.ka_cpu.specs.declared.moves.Transfer.TheVariants.{Plain, Swapped, Negated, Magnitude}
@@ -546,5 +546,22 @@ ends-exec g core = (keeps-exec g core).ends
 -- how an instruction ends, of a state that is known to be what it leaves
 pub ends_by : (g h : Regs) (core rest : List ℕ) (o : Outcome) → record { regs = h; core = rest; outcome = o } ≡ exec g core → EndsAs o g core h rest
 ends_by g h core rest o e = let P : After → Type 0 = λ a. EndsAs a.outcome g core a.regs a.core in subst P (sym e) (ends-exec g core)
+
+-- and so a word that stands nowhere
+pub length-exec_word : (g : Regs) (core : List ℕ) (w : ℕ) → length (exec_word g core w).core ≡ length core
+length-exec_word g core w = (keeps-word g core (word_behind MOST_EXECUTES g.ac core w)).cells
+
+pub registers-exec_word : (g : Regs) (core : List ℕ) (w : ℕ) → length (exec_word g core w).regs.ac ≡ length g.ac
+registers-exec_word g core w = (keeps-word g core (word_behind MOST_EXECUTES g.ac core w)).registers
+
+pub pc-exec_word : (g : Regs) (core : List ℕ) (w : ℕ) → g.pc < 2 ^ 18 → (exec_word g core w).regs.pc < 2 ^ 18
+pc-exec_word g core w h = (keeps-word g core (word_behind MOST_EXECUTES g.ac core w)).pc h
+
+pub ends-exec_word : (g : Regs) (core : List ℕ) (w : ℕ) → EndsAs (exec_word g core w).outcome g core (exec_word g core w).regs (exec_word g core w).core
+ends-exec_word g core w = (keeps-word g core (word_behind MOST_EXECUTES g.ac core w)).ends
+
+pub word_ends_by : (g h : Regs) (core rest : List ℕ) (w : ℕ) (o : Outcome) → record { regs = h; core = rest; outcome = o } ≡ exec_word g core w
+    → EndsAs o g core h rest
+word_ends_by g h core rest w o e = let P : After → Type 0 = λ a. EndsAs a.outcome g core a.regs a.core in subst P (sym e) (ends-exec_word g core w)
 
 pub ruleset exec_laws = (length-exec, registers-exec, pc-exec, ends-exec)

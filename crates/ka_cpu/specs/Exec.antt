@@ -139,3 +139,7 @@ word_performed g core (Ok w) = performed g core w
 -- the instruction at the PC
 unfoldable pub exec : Regs → List ℕ → After
 exec g core = word_performed g core (reading (word_at g.ac core g.pc) (λ w. word_behind MOST_EXECUTES g.ac core w))
+
+-- a word that stands nowhere, executed as an XCT would execute it: the PC is that of the XCT
+abbrev pub exec_word : Regs → List ℕ → ℕ → After
+exec_word g core w = word_performed g core (word_behind MOST_EXECUTES g.ac core w)

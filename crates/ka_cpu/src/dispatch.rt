@@ -36,6 +36,9 @@ pub const HERE: u8 = 2;
 /// The caller is `step_in_loop`.
 pub const LOOP: u8 = 3;
 
+/// The caller is `execute_word`.
+pub const WORD: u8 = 4;
+
 /// Calls the body of a common family in the mode of the instruction, each mode with a copy of its
 /// own, in which the mode is not looked at again.
 macro_rules! in_mode {
@@ -244,7 +247,7 @@ fn carry_out_rest<M: JobMemory, const CALLER: u8>(
 
 /// Carries out an instruction whose address is known, or, where it is an XCT, does nothing.
 ///
-/// `CALLER` is `STEP`, `RUN`, `HERE` or `LOOP`. It changes nothing of what is done: it gives each of these callers
+/// `CALLER` is `STEP`, `RUN`, `HERE`, `LOOP` or `WORD`. It changes nothing of what is done: it gives each of these callers
 /// a copy of this body, also where they have the same memory, since a body of this size is inlined only where
 /// it has one caller.
 #[inline(always)]

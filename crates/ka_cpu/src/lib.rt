@@ -23,4 +23,4 @@ pub use address::find_address;
 pub use laws::{address_laws, block_laws, exec_laws, refusal_laws, run_laws, stack_laws, xct_laws};
 pub use limits::{MOST_EXECUTES, MOST_LINKS};
 pub use next::{executed_word, next_call};
-pub use processor::{run_steps, run_steps_from, step, step_in_loop};
+pub use processor::{execute_word, run_steps, run_steps_from, step, step_in_loop};

@@ -4,13 +4,13 @@ ghost use Rattle.std.specs.Prelude.{◌≡◌, ◌<◌, ◌^◌, ◌-◌, false,
 ghost use Rattle.ka_cpu.specs.declared.limits.TheConstants.{MOST_EXECUTES};
 ghost use Rattle.ka_cpu.specs.Addresses.{reading};
 ghost use Rattle.ka_cpu.specs.Effects.{EndsAs};
-ghost use Rattle.ka_cpu.specs.Exec.{ac_field, exec, is_xct, op_of, word_behind, word_performed};
+ghost use Rattle.ka_cpu.specs.Exec.{ac_field, exec, exec_word, is_xct, op_of, word_behind, word_performed};
 ghost use Rattle.ka_state.specs.Memory.{word_at};
 ghost use Rattle.ka_cpu.specs.Runs.{ran};
 
 use crate::MOST_EXECUTES;
 use crate::address::find_address;
-use crate::dispatch::{HERE, LOOP, RUN, STEP, carry_out, refusal};
+use crate::dispatch::{HERE, LOOP, RUN, STEP, WORD, carry_out, refusal};
 use crate::instruction::{ILLEGAL, Instruction};
 use ka_state::{CoreWords, JobMemory, Outcome, ReadMemory, Regs, StopReason, fetch, fetch_code};
 use word36::{Address, Word};
@@ -151,6 +151,18 @@ pub fn step_in_loop<M: JobMemory>(regs: &mut Regs, memory: &mut M) -> Outcome
     ensures place { M.place memory.new ≡ M.place memory.old }
 {
     execute_next::<M, LOOP>(regs, memory)
+}
+
+/// Executes a word that stands nowhere, as an XCT at the PC would execute it. It ends as an instruction does that `step`
+/// executes. A debugger carries out by this what a person types.
+#[inline(never)]
+#[tactic(auto, using(crate::proofs::ExecLaws::word_ends_by))]
+pub fn execute_word<M: JobMemory>(regs: &mut Regs, memory: &mut M, word: Word) -> Outcome
+    ensures exec { record { regs = regs.new; core = M.words memory.new; outcome = result } ≡ exec_word regs.old (M.words memory.old) word }
+    ensures place { M.place memory.new ≡ M.place memory.old }
+    ensures ends { EndsAs result regs.old (M.words memory.old) regs.new (M.words memory.new) }
+{
+    execute::<M, WORD>(regs, memory, word)
 }
 
 /// Executes at most `most` instructions, one after another, until one calls the monitor or stops. The answer

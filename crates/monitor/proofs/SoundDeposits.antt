@@ -27,7 +27,7 @@ set-own (x ∷ l) zero d = refl
 set-own (x ∷ l) (suc n) d = ap (λ k. x ∷ k) (set-own l n d)
 
 -- a job whose line and wait stay
-sound-job : (s : S) (n : ℕ) (j k : Job) → job_at s.world.table.jobs n ≡ Some j → k.line ≡ j.line → k.wait ≡ j.wait → InRange (Some k) → IsSound s
+pub sound-job : (s : S) (n : ℕ) (j k : Job) → job_at s.world.table.jobs n ≡ Some j → k.line ≡ j.line → k.wait ≡ j.wait → InRange (Some k) → IsSound s
     → IsSound (record s { world = record s.world { table = with_job s.world.table n (Some k) } })
 sound-job s n j k is line wait fits h =
     let jobs = s.world.table.jobs in
@@ -60,7 +60,7 @@ core-below s n there h =
     omega (arith, h.housed.store.jobs, number.1)
 
 -- core that stays as long
-sound-core : (s : S) (n : ℕ) (words : List ℕ) → is_some (job_at s.world.table.jobs n) ≡ true → length words ≡ length (core_of s.world.cores n) → IsSound s
+pub sound-core : (s : S) (n : ℕ) (words : List ℕ) → is_some (job_at s.world.table.jobs n) ≡ true → length words ≡ length (core_of s.world.cores n) → IsSound s
     → IsSound (record s { world = record s.world { cores = with_core s.world.cores n words } })
 sound-core s n words there long h = record {
   safe = record {

@@ -13,6 +13,9 @@ mod system;
 mod turn;
 
 pub use copies::{copied, ungranted_in};
+pub use deposits::is_complete;
 pub use machine::{Answer, Config, Event, JobView, MOST_QUANTUM, RefusedEvent, Told};
+pub use next::JobWords;
 pub use rounds::Rounds;
 pub use system::System;
+pub use turn::run_job;

@@ -15,7 +15,7 @@ use word36::{BLOCK_WORDS, Word};
 
 /// The words of a job's core, read where the store keeps them.
 #[derive(Drop)]
-pub(crate) struct JobWords<'a, C: CoreStore> {
+pub struct JobWords<'a, C: CoreStore> {
     /// The core of all jobs.
     cores: &'a C,
     /// The number of the job.
@@ -35,7 +35,7 @@ impl<'a, C: CoreStore> Model for JobWords<'a, C> {
 
 impl<'a, C: CoreStore> JobWords<'a, C> {
     /// The core of a job.
-    pub(crate) fn new(cores: &'a C, number: u8) -> Self
+    pub fn new(cores: &'a C, number: u8) -> Self
         requires { IsJob number }
         ensures { result ≡ core_of (C.meaning cores.now) number }
     {

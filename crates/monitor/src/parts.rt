@@ -10,7 +10,7 @@ ghost use Rattle.machine.specs.Between.{Between, NoneOver, is_among, next_in};
 ghost use Rattle.lock_queue.specs.Jobs.{is_among as is_in_set};
 ghost use Rattle.job_sched.specs.Changes.{ticked_table};
 ghost use Rattle.job_sched.specs.Limits.{expires};
-ghost use Rattle.machine.specs.Deposits.{deposited, started_at};
+ghost use Rattle.machine.specs.Deposits.{deposited, end_by_hand, executed_by_hand, started_at};
 ghost use Rattle.machine.specs.Images.{blocks_for};
 ghost use Rattle.machine.specs.Machine.{S, after, answers, called, refusal_of, stepped, ticked, killed, happens, at_boot, started};
 ghost use Rattle.machine.specs.Machine.{continued, restarted, typed, taken, admitted, first_quota, logged_in};
@@ -26,7 +26,7 @@ ghost use Rattle.monitor_laws.specs.Quiet.{IsQuiet};
 
 use crate::copies::{ungranted_if, ungranted_in};
 use crate::cores::free_all;
-use crate::deposits::{is_done, put_word, set_pc};
+use crate::deposits::{execute_in, is_done, put_word, set_pc};
 use crate::login::{image_top, load_job};
 use crate::next::{JobWords, asked_next};
 use crate::rounds::Rounds;
@@ -35,6 +35,7 @@ use crate::turn::run_turn;
 use core_store::CoreStore;
 use job_sched::{Job, JobError, JobTable, TimeOfDay, Wait};
 use ka_cpu::{executed_word, find_address};
+use ka_state::Outcome;
 use lock_queue::{LockTable, Request};
 use machine::{
     Answer, Config, Event, INTERRUPT_CHARACTER, JobView, LOGIN_QUOTA, RefusedEvent, Told,
@@ -49,7 +50,7 @@ use word36::{Address, BLOCK_WORDS, DATA_WORDS, Image, JOBS, Word};
 #[derive(Drop)]
 pub struct Parts<L: LockTable, C: CoreStore> {
     /// What the calls of jobs work on.
-    world: World<L, C>,
+    pub(crate) world: World<L, C>,
     /// The time of day in ticks.
     time: TimeOfDay,
     /// The ticks of a quantum.
@@ -775,6 +776,23 @@ impl<L: LockTable, C: CoreStore> Parts<L, C> {
         match &mut world.table.jobs[n as usize] {
             Some(job) => put_word(n, job, &mut world.cores, a, word),
             None => false,
+        }
+    }
+
+    /// Executes a word for a job by hand, and tells how it ends, if the job is there.
+    #[inline(never)]
+    pub fn execute(&mut self, n: u8, word: Word) -> Option<Outcome>
+        requires { Safe self.old }
+        ensures state { self.new ≡ executed_by_hand self.old n word }
+        ensures end { result ≡ end_by_hand self.old n word }
+    {
+        if n > JOBS {
+            return None;
+        }
+        let world = &mut self.world;
+        match &mut world.table.jobs[n as usize] {
+            Some(job) => Some(execute_in(n, job, &mut world.cores, word)),
+            None => None,
         }
     }
 

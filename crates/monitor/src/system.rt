@@ -5,7 +5,7 @@ ghost use Rattle.job_sched.specs.Changes.{ticked_table};
 ghost use Rattle.job_sched.specs.Limits.{expires};
 ghost use Rattle.lock_queue.specs.Jobs.{is_among as is_in_set};
 ghost use Rattle.machine.specs.Between.{Between, is_among, next_in};
-ghost use Rattle.machine.specs.Deposits.{deposited, started_at};
+ghost use Rattle.machine.specs.Deposits.{deposited, end_by_hand, executed_by_hand, is_done_by_hand, started_at};
 ghost use Rattle.machine.specs.Machine.{happens, after, answers, at_boot};
 ghost use Rattle.machine.specs.Next.{asked_next, block_next, effective_in, executed_in};
 ghost use Rattle.machine.specs.Rounds.{rounds, runs_in};
@@ -20,11 +20,12 @@ ghost use Rattle.progress_laws.specs.Promises.{EventKeeps, RunKeeps};
 use crate::parts::Parts;
 use crate::rounds::Rounds;
 use core_store::CoreStore;
+use ka_state::Outcome;
 use lock_queue::{LockTable, Request};
 use machine::{Answer, Config, Event, JobView, Told};
 use std::alloc::{AllocError, Global};
 use std::marker::Model;
-use uuo_calls::{Asked, BlockRoom};
+use uuo_calls::{Asked, BlockRoom, World};
 use word36::{Address, Word};
 
 /// A DECsystem-10 with up to 63 jobs and 64 terminal lines (this project's profile).
@@ -241,6 +242,20 @@ impl<L: LockTable, C: CoreStore> System<L, C> {
         self.parts.deposit(n, a, w)
     }
 
+    /// Executes a word for a job, as a debugger does with an instruction that is typed: as an XCT before the instruction at
+    /// the job's PC would, so that this one comes next, unless the word skips it or jumps. It takes no turn and no time,
+    /// and the job's stop and wait stay. Tells how the processor ends it; `None` where the job is not there. Nothing
+    /// changes where it is not complete: at a stop, unless that is a pushdown overflow, and where it would call the
+    /// monitor. This is not an event.
+    pub fn execute(&mut self, n: u8, word: Word) -> Option<Outcome>
+        ensures state { self.new ≡ executed_by_hand self.old n word }
+        ensures end { result ≡ end_by_hand self.old n word }
+        ensures others { (m b : ℕ) → m ≢ n → word_in self.new.world m b ≡ word_in self.old.world m b }
+        ensures kept { is_done_by_hand result ≡ false → self.new ≡ self.old }
+    {
+        self.parts.execute(n, word)
+    }
+
     /// Starts a job at an address, as a debugger does: makes the event `Start`, and sets the job's PC to the
     /// address where the answer is `Done`. This is not an event either.
     pub fn start_at(&mut self, n: u8, a: Address) -> Answer
@@ -257,6 +272,14 @@ impl<L: LockTable, C: CoreStore> System<L, C> {
         ensures { result ≡ slice_get self.now.world.shared i }
     {
         self.parts.data_word(i)
+    }
+
+    /// What calls work on, without the machine round it, for whoever lets jobs take their turns in other orders.
+    pub fn into_world(self) -> World<L, C>
+        ensures world { result ≡ self.world }
+        ensures sound { IsSound self }
+    {
+        self.parts.world
     }
 
     /// The lock table, with the requests of all jobs.

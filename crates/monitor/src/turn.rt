@@ -1,24 +1,26 @@
 //! A job's turn: an interrupt is delivered, or instructions are executed.
-ghost use Rattle.std.specs.Prelude.{◌≡◌, ◌≢◌, ◌<◌, ◌≤◌, ◌^◌, [], None, true, false};
+ghost use Rattle.std.specs.Prelude.{◌≡◌, ◌≢◌, ◌<◌, ◌≤◌, ◌^◌, [], None, IsSome, true, false};
 ghost use Rattle.core_store.specs.Cores.{IsJob, core_of};
+ghost use Rattle.job_sched.specs.Tables.{job_at};
 ghost use Rattle.ka_state.specs.Memory.{are_legal};
 ghost use Rattle.ka_cpu.specs.Runs.{ran};
 ghost use Rattle.ka_state.specs.declared.outcome.StopReason.TheVariants.{IllegalAddress};
 ghost use Rattle.uuo_calls.specs.CallState.{stopped};
 ghost use Rattle.machine.specs.Between.{NoneOver};
+ghost use Rattle.machine.specs.Machine.{ran as ran_job};
 ghost use Rattle.machine.specs.Stretches.{Stretch, stretch_by, stretch_of};
-ghost use Rattle.machine.specs.Turns.{Turn, delivered, interrupted_at};
+ghost use Rattle.machine.specs.Turns.{Turn, delivered, interrupted_at, turn_of};
 
-use crate::runner::Runner;
+use crate::runner::{Loop, Runner};
 use core_store::CoreStore;
-use job_sched::{Job, NO_FLAGS, Stop};
+use job_sched::{Job, NO_FLAGS, Stop, TimeOfDay, Wait};
 use ka_state::{
     Accumulator, CoreWords, JobMemory, Outcome, Regs, StopReason, are_legal_kept, pc_word, store,
     word_kept,
 };
 use lock_queue::{LockTable, RequestId};
 use machine::VECTOR_WORDS;
-use uuo_calls::MonitorCall;
+use uuo_calls::{MonitorCall, World};
 use word36::{Address, Word};
 
 /// Executes 1 to `most` instructions of a job in its core, until the runner ends the turn, or one of them
@@ -166,4 +168,43 @@ pub(crate) fn run_turn<L: LockTable, C: CoreStore, R: Runner>(
     ensures wait { job.new.wait ≡ job.old.wait }
 {
     take_turn::<L, C, R>(number, job, locks, cores, most, runner)
+}
+
+/// Takes the turn of a job that has core and waits for nothing, for one round. Returns the call that the job makes; the
+/// job still has core then.
+#[inline(always)]
+fn take_one_turn<L: LockTable, C: CoreStore>(
+    number: u8,
+    job: &mut Job,
+    locks: &mut L,
+    cores: &mut C,
+) -> Option<MonitorCall>
+    requires number { IsJob number }
+    requires core { core_of (C.meaning cores.old) number ≢ [] }
+    ensures turn { record { job = job.new; cores = C.meaning cores.new; requests = L.requests locks.new; call = result }
+        ≡ turn_of number job.old (C.meaning cores.old) (L.requests locks.old) }
+    ensures core { core_of (C.meaning cores.new) number ≢ [] }
+    ensures wait { job.new.wait ≡ job.old.wait }
+{
+    let (_, call, _) = run_turn::<L, C, Loop<false>>(number, job, locks, cores, 1, &Loop);
+    call
+}
+
+/// Runs a job for one round, whichever job is current: ends its wait, takes its turn, and performs the call that it
+/// makes. `System` asks the scheduler which job that is; whoever looks at other orders of turns chooses it.
+#[inline(never)]
+pub fn run_job<L: LockTable, C: CoreStore>(world: &mut World<L, C>, n: u8, time: TimeOfDay)
+    requires number { IsJob n }
+    requires there { IsSome (job_at world.old.table.jobs n) }
+    requires core { core_of world.old.cores n ≢ [] }
+    ensures { world.new ≡ ran_job world.old time n (job_at world.old.table.jobs n) }
+{
+    let Some(job) = &mut world.table.jobs[n as usize] else {
+        return;
+    };
+    job.wait = Wait::None;
+    let call = take_one_turn(n, job, &mut world.locks, &mut world.cores);
+    if let Some(call) = call {
+        world.perform(n, call, time);
+    }
 }

@@ -1,6 +1,12 @@
 -- Rounds without facts, and rounds one after another.
-use Rattle.std.proofs.Common.{◌≡◌, ◌<◌, ◌≤◌, ◌∙◌, ◌⊎◌, inl, inr, sym, ap, ℕ, suc, ◌+◌, ◌-◌, ◌++◌, nat_lt, Bool, true, false, List, [], Option, refl, arith}
+use Rattle.std.proofs.Common.{◌≡◌, ◌<◌, ◌≤◌, ◌∙◌, ◌⊎◌, inl, inr, sym, ap, ℕ, suc, ◌+◌, ◌-◌, ◌++◌, nat_lt, Bool, true, false, List, [], Option, Some, None, refl, arith}
+use Rattle.std.proofs.lemmas.Bool.{false≢true}
 use Rattle.std.proofs.lemmas.Bool.Decides.{nat_tests}
+use Rattle.job_sched.proofs.Turns.{next-ready}
+use Rattle.job_sched.specs.Ready.{is_ready_job}
+use Rattle.job_sched.specs.Tables.{job_at}
+use Rattle.job_sched.specs.declared.job.Job.{Job}
+use Rattle.machine.specs.Between.{next_in}
 use Rattle.lock_queue.specs.Waits.{jobs}
 use Rattle.lock_queue.specs.declared.request.Request.{Request}
 use Rattle.job_sched.specs.Changes.{ticked_table}
@@ -10,14 +16,14 @@ use Rattle.uuo_calls.specs.Performed.{World}
 use Rattle.machine.specs.Machine.{S, after, happens, ticked}
 use Rattle.machine.specs.Rounds.{rounds}
 use Rattle.machine.specs.Waits.{ungranted}
-use Rattle.machine.specs.Told.{before_in, read_in, told_in}
+use Rattle.machine.specs.Told.{before_in, read_in, told_by, told_in, told_of, world_of}
 use Rattle.machine.specs.declared.event.Event.TheVariants.{Step, Tick}
 use Rattle.machine.specs.declared.told.Told.{Told}
 use Rattle.machine.specs.declared.view.JobView.{JobView}
 use Rattle.monitor_laws.specs.Quiet.{IsQuiet}
 use Rattle.monitor_laws.proofs.Rounding.{rounds-left}
 use Rattle.run_events.specs.Facts.{ended_facts, facts_if, facts_of_step, facts_of_tick, stopped_facts, with_grants}
-use Rattle.run_events.specs.Runs.{RunsTo, facts_of_round}
+use Rattle.run_events.specs.Runs.{RunsTo, facts_of_round, job_told}
 use Rattle.run_events.specs.declared.facts.Fact.{Fact}
 use Rattle.run_events.proofs.TickLemmas.{none-calm}
 
@@ -122,3 +128,16 @@ step-told x t l m b o f same found read step told is =
     ∙ ap (λ (k : ReadBlock). facts_if (before_in x) k t.world o) read
     ∙ ap (λ (v : S). facts_if (before_in x) (read_in x) v.world o) step
     ∙ ap (λ (p : Option Told). facts_if (before_in x) (read_in x) (happens x Step).state.world p) told
+
+no-job : (w : World) (n : ℕ) (o : Option Job) → is_ready_job w.lines w.requests n o ≡ true → (v : World) → job_told (told_by v n o) ≡ Some n
+no-job w n (Some j) ready v = refl
+no-job w n None ready v = absurd (false≢true ready)
+
+by-next : (s : S) (o : Option ℕ) → next_in s ≡ o → job_told (told_of s o) ≡ o
+by-next s None e = refl
+by-next s (Some n) e =
+    no-job s.world n (job_at s.world.table.jobs n) (next-ready s.world.table s.world.lines s.world.requests n e) (world_of s n)
+
+-- the job that a step tells of is the one that is next
+pub told_job : (s : S) → job_told (told_in s) ≡ next_in s
+told_job s = by-next s (next_in s) refl

@@ -10,7 +10,8 @@ mod steps;
 mod ticks;
 
 pub use facts::{Called, Fact};
+pub use grants::is_rest_of;
 pub use laws::{answers_are_performed, facts_are_the_last};
-pub use runs::{RoundsMade, rounds_facts, run_to_fact};
+pub use runs::{RoundsMade, round_facts, rounds_facts, run_to_fact};
 pub use steps::step_facts;
 pub use ticks::tick_facts;

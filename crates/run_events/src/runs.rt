@@ -1,6 +1,11 @@
 //! The facts of a run, round by round; a round is a step with a tick behind it.
-ghost use Rattle.std.specs.Prelude.{◌≡◌, ◌≤◌, ◌<◌, [], IfOk};
-ghost use Rattle.run_events.specs.Runs.{LeadsTo, RunsTo, has_called, job_told};
+ghost use Rattle.std.specs.Prelude.{◌≡◌, ◌≤◌, ◌<◌, ◌++◌, [], IfOk};
+ghost use Rattle.machine.specs.Between.{next_in};
+ghost use Rattle.machine.specs.Machine.{after};
+ghost use Rattle.machine.specs.Rounds.{rounds};
+ghost use Rattle.std.specs.Prelude.{true};
+ghost use Rattle.run_events.specs.Facts.{facts_of_step, facts_of_tick};
+ghost use Rattle.run_events.specs.Runs.{LeadsTo, RunsTo, facts_of_round, has_called, job_told};
 
 use crate::facts::Fact;
 use crate::steps::step_part;
@@ -99,6 +104,33 @@ fn next_rounds<L: LockTable, C: CoreStore>(
     let mut later = tick_facts(alloc, system)?;
     facts.append(&mut later)?;
     Ok((made, facts))
+}
+
+/// Makes a round, and gives the job that ran in it, if one was ready, and the facts of the round. What stands in `room`
+/// after it means nothing.
+pub fn round_facts<L: LockTable, C: CoreStore>(
+    alloc: Global,
+    system: &mut System<L, C>,
+    room: &mut BlockRoom,
+) -> (Option<u8>, Result<Vec<Fact>, AllocError>)
+    ensures state { system.new ≡ after (rounds 1 true) system.old }
+    ensures job { result.0 ≡ next_in system.old }
+    ensures facts { IfOk result.1 (λ facts. facts.items ≡ facts_of_round system.old) }
+{
+    let (told, before) = system.step_told(alloc, room);
+    let job = job_told(&told);
+    let of_step = match before {
+        Ok(before) => step_part(alloc, told, before.as_slice(), room, system),
+        Err(error) => Err(error),
+    };
+    let of_tick = tick_facts(alloc, system);
+    let (Ok(mut facts), Ok(mut later)) = (of_step, of_tick) else {
+        return (job, Err(AllocError));
+    };
+    match facts.append(&mut later) {
+        Ok(()) => (job, Ok(facts)),
+        Err(error) => (job, Err(error)),
+    }
 }
 
 /// Makes rounds up to the first that has a fact, `most` at most. Gives how many, and the facts of the last. What

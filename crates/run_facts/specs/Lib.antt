@@ -1,3 +1,2 @@
-pub mod Grants
 pub mod Typing
 pub mod Ends

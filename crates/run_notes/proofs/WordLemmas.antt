@@ -1,36 +1,10 @@
 -- Lines that are made piece by piece.
-use Rattle.std.specs.List.{flat_map}
 use Rattle.std.specs.Prelude.{codes}
 use Rattle.std.proofs.Common.{◌≡◌, ◌<◌, ◌≤◌, ◌+◌, ◌-◌, ◌++◌, ◌∙◌, ℕ, Bool, true, false, cond, List, [], ◌∷◌, Option, length, take, drop, get_or, refl, sym, ap, subst, append_assoc, arith}
 use Rattle.std.proofs.lemmas.List.{drop_more, take_more, take_rest}
-use Rattle.lock_queue.specs.Queue.{chosen_behind}
 use Rattle.lock_queue.specs.declared.request.Request.{Request}
 use Rattle.wait_graph.specs.declared.lock_waits.LockBetween.{LockBetween}
 use Rattle.run_notes.specs.Words.{AreJobTexts, IsBetween, IsJobText, first_or, had_words, job_words, waited_words}
-
-one_first : (g : Request → List ℕ) (b : Bool) (r : Request) (later : List Request)
-    → flat_map g (cond b (r ∷ later) later) ≡ cond b (g r) [] ++ flat_map g later
-one_first g true r later = refl
-one_first g false r later = refl
-
--- the lines on some requests and those on the others behind them, where the line on one more was added
-pub lines_further : (f : List Request → Request → Bool) (g : Request → List ℕ) (requests : List Request) (i : ℕ) (r : Request)
-    (sofar new all : List ℕ) → i < length requests → r ≡ get_or requests i r → new ≡ sofar ++ cond (f (take i requests) r) (g r) []
-    → sofar ++ flat_map g (chosen_behind f (take i requests) (drop i requests)) ≡ all
-    → new ++ flat_map g (chosen_behind f (take (i + 1) requests) (drop (i + 1) requests)) ≡ all
-lines_further f g requests i r sofar new all within is added before =
-    let later : List Request = chosen_behind f (take i requests ++ r ∷ []) (drop (i + 1) requests) in
-    let b : Bool = f (take i requests) r in
-    let behind : chosen_behind f (take (i + 1) requests) (drop (i + 1) requests) ≡ later =
-    ap (λ l. chosen_behind f l (drop (i + 1) requests)) (take_more requests i r within ∙ ap (λ y. take i requests ++ y ∷ []) (sym is)) in
-    let here : chosen_behind f (take i requests) (drop i requests) ≡ cond b (r ∷ later) later =
-    ap (λ l. chosen_behind f (take i requests) l) (drop_more requests i r within ∙ ap (λ y. y ∷ drop (i + 1) requests) (sym is)) in
-    ap (λ l. new ++ flat_map g l) behind
-    ∙ ap (λ l. l ++ flat_map g later) added
-    ∙ append_assoc sofar (cond b (g r) []) (flat_map g later)
-    ∙ ap (λ l. sofar ++ l) (sym (one_first g b r later))
-    ∙ ap (λ l. sofar ++ flat_map g l) (sym here)
-    ∙ before
 
 pub first_of : (jobs : List ℕ) → 1 ≤ length jobs → jobs ≡ get_or jobs 0 0 ∷ take (length jobs - 1) (drop 1 jobs)
 first_of [] some = absurd (omega (arith, some))

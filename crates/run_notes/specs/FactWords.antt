@@ -177,6 +177,20 @@ fact_text s tick (fact.CircleClosed job) = []
 fact_text s tick (fact.Stopped job why) = []
 fact_text s tick (fact.LoggedOut job) = []
 
+-- the line on a grant, and none on another fact
+abbrev pub grant_text : ℕ → Fact → List ℕ
+grant_text tick (fact.Granted r) = grant_words tick r
+grant_text tick (fact.Called c) = []
+grant_text tick (fact.LimitEnded job id) = []
+grant_text tick (fact.Left r) = []
+grant_text tick (fact.CircleClosed job) = []
+grant_text tick (fact.Stopped job why) = []
+grant_text tick (fact.LoggedOut job) = []
+
+-- the lines on the grants among some facts of one tick
+abbrev pub grants_text : ℕ → List Fact → List ℕ
+grants_text tick facts = flat_map (grant_text tick) facts
+
 -- the lines on some facts of one tick
 abbrev pub facts_text : S → ℕ → List Fact → List ℕ
 facts_text s tick facts = flat_map (fact_text s tick) facts

@@ -20,7 +20,7 @@ use Rattle.call_block.specs.declared.block.Block.{Block}
 use Rattle.queue_script.specs.Printing.{name_text}
 use Rattle.uuo_calls.specs.Asked.{ReadBlock}
 use Rattle.uuo_calls.specs.declared.asked.LockService.{LockService}
-use Rattle.run_facts.specs.Grants.{is_left_of}
+use Rattle.run_events.specs.Grants.{is_rest_of}
 use Rattle.run_events.specs.declared.facts.Called.{Called}
 use Rattle.run_events.specs.declared.facts.Fact.{Fact}
 use Rattle.run_events.specs.declared.facts.Fact.TheVariants as fact
@@ -108,8 +108,8 @@ after_call tick c s = if makes_request c.asked.service (left_half c.asked.word) 
 
 -- whether a fact ends the wait of a request: it is granted or gone, or its job's time limit ended
 abbrev pub ends : Fact → WaitClock → Bool
-ends (fact.Granted r) clock = is_left_of r clock.request
-ends (fact.Left r) clock = is_left_of r clock.request
+ends (fact.Granted r) clock = is_rest_of r clock.request
+ends (fact.Left r) clock = is_rest_of r clock.request
 ends (fact.LimitEnded job id) clock = clock.request.job == job && is_blocking clock.request.kind
 ends other clock = false
 

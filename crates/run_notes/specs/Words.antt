@@ -3,7 +3,7 @@ use Rattle.std.specs.Prelude.{◌≡◌, ◌==◌, ◌++◌, ◌+◌, ◌-◌, �
 use Rattle.std.specs.Prelude.{Option, Some, None, IfSome, false, codes, decimal, if◌then◌else◌}
 use Rattle.std.specs.List.{IsFirstBest, flat_map, list_any}
 use Rattle.lock_queue.specs.Jobs.{waits_for}
-use Rattle.lock_queue.specs.Queue.{chosen, some_behind}
+use Rattle.lock_queue.specs.Queue.{some_behind}
 use Rattle.lock_queue.specs.Waits.{waits_hard_for, jobs as the_jobs}
 use Rattle.lock_queue.specs.declared.request.Request.{Request}
 use Rattle.lock_queue.specs.declared.want.Want.{Want}
@@ -11,7 +11,6 @@ use Rattle.queue_script.specs.Printing.{name_text, group_text, level_text, pool_
 use Rattle.wait_graph.specs.LockWaits.{is_kept_from, is_kept_waiting, keepers, want_at, want_kept, want_waited_for, waits_for_owner}
 use Rattle.wait_graph.specs.declared.lock_waits.LockBetween.{LockBetween}
 use Rattle.wait_graph.specs.declared.lock_waits.LockWait.{LockWait}
-use Rattle.run_facts.specs.Grants.{is_new_grant}
 
 -- a job's time limit ended at a tick, with the request by which the job waited
 abbrev pub limit_words : ℕ → ℕ → Option ℕ → List ℕ
@@ -42,10 +41,6 @@ abbrev pub grant_words : ℕ → Request → List ℕ
 grant_words tick r =
     codes "tick " ++ (decimal tick ++ (codes ", job " ++ (decimal r.job
     ++ (codes ": granted request " ++ (decimal r.id ++ (codes "." ++ (wants_words r.wants.items ++ codes "\n")))))))
-
--- each request that is granted now and was not before, in order of arrival
-abbrev pub grants_words : ℕ → List Request → List Request → List ℕ
-grants_words tick before requests = flat_map (grant_words tick) (chosen (is_new_grant before) requests)
 
 -- the first lock from which another job keeps a job, if it keeps it from one, and whether it owns it
 pub record IsBetween (requests : List Request) (job other : ℕ) (o : Option LockBetween) : Type 0 where

@@ -2,7 +2,7 @@
 ghost use Rattle.std.specs.Prelude.{◌≡◌, ◌++◌, IfOk, OnOk, if◌then◌else◌, decimal, string_bytes};
 ghost use Rattle.std.specs.List.{flat_map};
 ghost use Rattle.word36.specs.Words.{left_half, right_half};
-ghost use Rattle.run_notes.specs.FactWords.{answer_words, asks_for_locks, block_words, called_words, code_words, done_words, fact_text, facts_text, function_words, id_words, limit_asked_words, locks_words, meaning_of, named_words, quota_words, refusal_words, refused_with, refused_words, service_words, status_words, stays, what_words};
+ghost use Rattle.run_notes.specs.FactWords.{answer_words, asks_for_locks, block_words, called_words, code_words, done_words, fact_text, facts_text, function_words, grants_text, id_words, limit_asked_words, locks_words, meaning_of, named_words, quota_words, refusal_words, refused_with, refused_words, service_words, status_words, stays, what_words};
 ghost use Rattle.run_notes.specs.Words.{grant_words, limit_words, wants_words};
 
 use crate::locks::push_lock;
@@ -337,7 +337,7 @@ fn push_call(
 
 /// Adds the line on a request that is granted.
 #[tactic(auto, using(std::proofs::Common::append_assoc))]
-pub fn push_grant(text: &mut String, tick: u64, request: &Request) -> Result<(), AllocError>
+fn push_grant(text: &mut String, tick: u64, request: &Request) -> Result<(), AllocError>
     ensures { OnOk result (string_bytes text.new ≡ string_bytes text.old ++ grant_words tick request.now) }
 {
     let (job, id) = (request.job, request.id.number());
@@ -396,6 +396,20 @@ pub fn facts_text(
     let mut text = String::new(alloc);
     for fact in facts {
         push_fact(&mut text, machine, tick, fact)?;
+    }
+    Ok(text)
+}
+
+/// The lines on the grants among the facts of a tick, in order of arrival.
+#[tactic(auto, using(std::proofs::Common::append_assoc))]
+pub fn grant_lines(alloc: Global, tick: u64, facts: &[Fact]) -> Result<String, AllocError>
+    ensures { IfOk result (λ text. string_bytes text ≡ grants_text tick facts.now) }
+{
+    let mut text = String::new(alloc);
+    for fact in facts {
+        if let Fact::Granted(request) = fact {
+            push_grant(&mut text, tick, request)?;
+        }
     }
     Ok(text)
 }

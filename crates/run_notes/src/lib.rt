@@ -5,7 +5,6 @@
 mod circle_lines;
 mod fact_lines;
 mod flag_names;
-mod grants;
 mod instructions;
 mod job_stops;
 mod lock_rows;
@@ -19,9 +18,8 @@ mod wait_clocks;
 mod wait_lines;
 
 pub use circle_lines::{circle_line, circle_of, has_circle};
-pub use fact_lines::facts_text;
+pub use fact_lines::{facts_text, grant_lines};
 pub use flag_names::FlagNames;
-pub use grants::grant_lines;
 pub use instructions::{IllegalText, InstructionText, Reference};
 pub use job_stops::{login_refusal_text, stop_text};
 pub use snapshot::{Snapshot, snapshot_of};

@@ -1,6 +1,6 @@
 //! A job as it stands before its turn.
 
-ghost use Rattle.std.specs.Prelude.{◌≡◌, IfSome, Some};
+ghost use Rattle.std.specs.Prelude.{◌≡◌, ◌<◌, ℕ, IfSome, Some, slice_index_or, unwrap_or};
 ghost use Rattle.machine.specs.Next.{effective_in, executed_in};
 ghost use Rattle.machine.specs.Views.{job_view, word_in};
 
@@ -88,13 +88,14 @@ pub fn address_of(machine: &Machine, number: u8, word: Word) -> Option<u32>
     }
 }
 
-/// The registers of a job.
-fn registers_of(machine: &Machine, number: u8) -> [Word; REGISTERS] {
+/// The registers of a job; 0 where it is not there.
+fn registers_of(machine: &Machine, number: u8) -> [Word; REGISTERS]
+    ensures { (k : ℕ) → k < 16 → slice_index_or result k 0 ≡ unwrap_or (word_in machine.now.world number k) 0 }
+{
     let mut registers = [Word::new(0); REGISTERS];
     for register in 0..REGISTERS {
-        if let Some(word) = machine.peek(number, register as u32) {
-            registers[register] = word;
-        }
+        let word = machine.peek(number, register as u32);
+        registers[register] = word.unwrap_or(Word::new(0));
     }
     registers
 }
@@ -117,6 +118,7 @@ pub fn snapshot_of(machine: &Machine, number: u8, place: Address) -> Snapshot
     ensures address { result.address ≡ effective_in machine.now.world number result.executed }
     ensures flags { IfSome (job_view machine.now.world number) (λ v. result.flags ≡ Some v.flags) }
     ensures operand { IfSome result.address (λ a. result.operand ≡ word_in machine.now.world number a) }
+    ensures registers { (k : ℕ) → k < 16 → slice_index_or result.registers k 0 ≡ unwrap_or (word_in machine.now.world number k) 0 }
 {
     let instruction = machine.peek(number, place.number()).unwrap_or(Word::new(0));
     let executed = machine

@@ -11,8 +11,7 @@ use call_block::Block;
 use concrete_machine::Machine;
 use lock_queue::steps::{names_key, write_request};
 use lock_queue::{Asking, EnqueueKind, Key, LockReply, Request};
-use run_events::{Called, Fact};
-use run_facts::is_left_of;
+use run_events::{Called, Fact, is_rest_of};
 use std::alloc::{AllocError, Global};
 use std::marker::Model;
 
@@ -97,7 +96,7 @@ fn ends(fact: &Fact, clock: &WaitClock) -> bool
     ensures { result ≡ ends fact.now clock.now }
 {
     match fact {
-        Fact::Granted(request) | Fact::Left(request) => is_left_of(request, &clock.request),
+        Fact::Granted(request) | Fact::Left(request) => is_rest_of(request, &clock.request),
         Fact::LimitEnded(job, _) => {
             clock.request.job == *job && matches!(clock.request.kind, EnqueueKind::Blocking)
         }

@@ -1,1 +1,2 @@
 mod Events
+pub mod Parts

@@ -1,6 +1,6 @@
 -- A run as lines of a script of `lockmon run` (this project's profile).
-use Rattle.std.specs.Prelude.{ℕ, ◌==◌, Bool, List, [], ◌∷◌, ◌++◌, codes, decimal, if◌then◌else◌}
-use Rattle.std.specs.List.{flat_map}
+use Rattle.std.specs.Prelude.{ℕ, ◌==◌, Bool, List, [], ◌∷◌, ◌++◌, codes, decimal, nat_eq, take, if◌then◌else◌}
+use Rattle.std.specs.List.{ends_with, flat_map}
 use Rattle.script_io.specs.Printing.{printed}
 use Rattle.run_record.specs.declared.pieces.Piece.{Piece}
 use Rattle.run_record.specs.declared.pieces.Piece.TheVariants as piece
@@ -43,3 +43,26 @@ text_of p = flat_map ended (lines_of p)
 
 abbrev pub text_in : List Piece → List ℕ
 text_in pieces = flat_map text_of pieces
+
+-- ---- before the pieces, and after them
+
+-- a remark with the command that obeys the script, for a machine of so many blocks and a quantum of so many ticks
+abbrev pub head_text : ℕ → ℕ → List ℕ
+head_text blocks quantum = ended (counted (codes "; lockmon run --blocks ") blocks ++ counted (codes " --quantum ") quantum)
+
+-- the end of a text's last line, where it has none
+abbrev pub last_end : List ℕ → List ℕ
+last_end text = if ends_with nat_eq text (codes "\n") then [] else codes "\n"
+
+-- a remark with the name of a file, at most 200 bytes of it
+abbrev pub remark : List ℕ → List ℕ
+remark name = ended (codes "; " ++ take 200 name)
+
+-- a source as the program of a number: a remark with the name of its file, and the source between ASSEMBLE and ENDASM
+abbrev pub program_text : ℕ → List ℕ → List ℕ → List ℕ
+program_text program file text =
+    remark file ++ (ended (counted (codes "ASSEMBLE P") program) ++ (text ++ (last_end text ++ codes "ENDASM\n")))
+
+-- what shows how the jobs and the locks stand
+abbrev pub end_text : List ℕ
+end_text = codes "SHOW JOBS\nSHOW LOCKS\nSHOW WAITS\n"

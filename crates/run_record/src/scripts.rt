@@ -1,8 +1,8 @@
 //! A run as a script.
-ghost use Rattle.std.specs.Prelude.{◌≡◌, ◌<◌, ◌++◌, codes, OnOk};
+ghost use Rattle.std.specs.Prelude.{◌≡◌, ◌<◌, ◌++◌, codes, take, OnOk};
 ghost use Rattle.std.specs.List.{flat_map};
 ghost use Rattle.script_io.specs.Printing.{printed, printed_character};
-ghost use Rattle.run_record.specs.Scripts.{ended, counted, program_name, run_lines, step_lines, text_of, text_in};
+ghost use Rattle.run_record.specs.Scripts.{end_text, ended, counted, head_text, last_end, program_name, program_text, remark, run_lines, step_lines, text_of, text_in};
 
 use crate::pieces::Piece;
 use script_io::{push_decimal, push_escaped};
@@ -12,12 +12,19 @@ use tty_lines::Char7;
 /// The most bytes of a file's name that are written in a remark.
 const MOST_NAMED: usize = 200;
 
+/// Adds some words and a number.
+fn push_number(out: &mut Vec<u8>, words: &[u8], number: u32) -> Result<(), AllocError>
+    ensures { OnOk result (out.new.items ≡ out.old.items ++ counted words.now number) }
+{
+    out.extend_from_slice(words)?;
+    push_decimal(out, number)
+}
+
 /// Adds a command with a number, and the end of its line.
 fn push_counted(out: &mut Vec<u8>, name: &[u8], number: u32) -> Result<(), AllocError>
     ensures { OnOk result (out.new.items ≡ out.old.items ++ ended (counted name.now number)) }
 {
-    out.extend_from_slice(name)?;
-    push_decimal(out, number)?;
+    push_number(out, name, number)?;
     out.push(b'\n')?;
     Ok(())
 }
@@ -119,39 +126,67 @@ pub fn push_pieces(out: &mut Vec<u8>, pieces: &[Piece]) -> Result<(), AllocError
 }
 
 /// Adds a remark with the command that obeys the script: a machine of so many blocks and a quantum of so many ticks.
-pub fn push_head(out: &mut Vec<u8>, blocks: u32, quantum: u8) -> Result<(), AllocError> {
-    out.extend_from_slice(b"; lockmon run --blocks ")?;
-    push_decimal(out, blocks)?;
-    out.extend_from_slice(b" --quantum ")?;
-    push_decimal(out, quantum)?;
+pub fn push_head(out: &mut Vec<u8>, blocks: u32, quantum: u8) -> Result<(), AllocError>
+    ensures { OnOk result (out.new.items ≡ out.old.items ++ head_text blocks quantum) }
+{
+    push_number(out, b"; lockmon run --blocks ", blocks)?;
+    push_number(out, b" --quantum ", u32::from(quantum))?;
     out.push(b'\n')?;
+    Ok(())
+}
+
+/// As much of a file's name as is written in a remark.
+#[tactic(auto, using(std::proofs::lemmas::List::take_min))]
+fn named(name: &[u8]) -> &[u8]
+    ensures { result.now ≡ take 200 name.now }
+{
+    &name[..MOST_NAMED.min(name.len())]
+}
+
+/// Adds a remark with the name of a file.
+fn push_remark(out: &mut Vec<u8>, name: &[u8]) -> Result<(), AllocError>
+    ensures { OnOk result (out.new.items ≡ out.old.items ++ remark name.now) }
+{
+    let name = named(name);
+    out.extend_from_slice(b"; ")?;
+    out.extend_from_slice(name)?;
+    out.push(b'\n')?;
+    Ok(())
+}
+
+/// Adds a line end, where a text does not end with one.
+fn push_last_end(out: &mut Vec<u8>, text: &[u8]) -> Result<(), AllocError>
+    ensures { OnOk result (out.new.items ≡ out.old.items ++ last_end text.now) }
+{
+    if !text.ends_with(b"\n") {
+        out.push(b'\n')?;
+    }
     Ok(())
 }
 
 /// Adds a source, whose lines can stand in a script, as the program of this number; a remark has the name of its file, as a
 /// line for a person shows it.
+#[tactic(auto, using(std::proofs::Common::append_assoc))]
 pub fn push_program(
     out: &mut Vec<u8>,
     program: u8,
     file: &str,
     text: &[u8],
-) -> Result<(), AllocError> {
-    let name = file.as_bytes();
-    out.extend_from_slice(b"; ")?;
-    out.extend_from_slice(&name[..name.len().min(MOST_NAMED)])?;
-    out.extend_from_slice(b"\nASSEMBLE P")?;
-    push_decimal(out, program)?;
-    out.push(b'\n')?;
+) -> Result<(), AllocError>
+    ensures { OnOk result (out.new.items ≡ out.old.items ++ program_text program file.now text.now) }
+{
+    push_remark(out, file.as_bytes())?;
+    push_counted(out, b"ASSEMBLE P", u32::from(program))?;
     out.extend_from_slice(text)?;
-    if !text.ends_with(b"\n") {
-        out.push(b'\n')?;
-    }
+    push_last_end(out, text)?;
     out.extend_from_slice(b"ENDASM\n")?;
     Ok(())
 }
 
 /// Adds what shows how the jobs and the locks stand at the end.
-pub fn push_end(out: &mut Vec<u8>) -> Result<(), AllocError> {
+pub fn push_end(out: &mut Vec<u8>) -> Result<(), AllocError>
+    ensures { OnOk result (out.new.items ≡ out.old.items ++ end_text) }
+{
     out.extend_from_slice(b"SHOW JOBS\nSHOW LOCKS\nSHOW WAITS\n")?;
     Ok(())
 }

@@ -8,7 +8,7 @@ use Rattle.ddt_moves.specs.Visits.{counters}
 use Rattle.ddt_moves.proofs.CounterLemmas.{none_counted}
 use Rattle.ddt_moves.proofs.EndLemmas.{counted_by_stop, end_by_stop, not_at_grant}
 use Rattle.ddt_moves.proofs.VisitLemmas.{none_count}
-use Rattle.ddt_moves.proofs.WatchLemmas.{no_grants}
+use Rattle.ddt_moves.proofs.WatchLemmas.{no_facts}
 use Rattle.ddt_moves.proofs.runs.run_to.Goals as goal
 
 pub returns-clause-end : goal.returns-clause-end
@@ -17,7 +17,8 @@ returns-clause-end c =
     end_by_stop _ c.args.stops.now c.args.list.now c.args.most c.in_ok-ran.ran c.of.result
     (subst (λ (l : List WatchedStop). IsRun (machine_of (history c.args.timeline.now)) l c.args.most c.in_ok-ran.ran) c.as_mut_slice.ensures.value
     c.in_ok-ran.ensures.run)
-    (no_grants _ c.args.list.now c.in_ok-ran.ran (or_parts _ _ (or_parts _ _ none).0).0)
+    (no_facts _ c.args.list.now c.in_ok-ran.ran (or_parts _ _ (or_parts _ _ (or_parts _ _ none).0).0).0
+    (or_parts _ _ (or_parts _ _ (or_parts _ _ none).0).0).1)
     (false_from_ne_true _ (λ by_watch. false≢true (c.in_ok-ran.ensures.watched by_watch)))
     c.of.ensures.made c.of.ensures.cause c.of.ensures.cut
 

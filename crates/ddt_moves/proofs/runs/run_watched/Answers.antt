@@ -20,7 +20,7 @@ returns-then-ran-clause-end c =
     (λ end ended.
     end_by_watch _ c.args.stops.now c.args.list.now c.args.most c.in_ok-ran.ran c.run.new.watch end run
     (watched _ c.args.list.now c.in_ok-watch.watch c.run.new.watch c.in_ok-ran.ran c.in_ok-watch.ensures.list
-    c.in_ok-watch.ensures.seen run.quiet (c.in_ok-ran.ensures.asked refl))
+    (c.in_ok-ran.ensures.asked refl))
     c.if-ran.true ended)
     c.ended_by.ensures.end
 
@@ -31,7 +31,7 @@ returns-clause-end c =
     c.as_mut_slice.ensures.value c.in_ok-ran.ensures.run in
     end_by_stop _ c.args.stops.now c.args.list.now c.args.most c.in_ok-ran.ran c.of.result run
     (watched _ c.args.list.now c.in_ok-watch.watch c.run.new.watch c.in_ok-ran.ran c.in_ok-watch.ensures.list
-    c.in_ok-watch.ensures.seen run.quiet (c.in_ok-ran.ensures.asked refl)).run
+    (c.in_ok-ran.ensures.asked refl)).run
     c.if-ran.false c.of.ensures.made c.of.ensures.cause c.of.ensures.cut
 
 pub returns-then-ran-clause-counted : goal.returns-then-ran-clause-counted
@@ -45,7 +45,7 @@ returns-then-ran-clause-counted c =
     c.args.list.now c.in_ok-ran.ran c.run.new.watch end
     (counted _ c.args.list.now (counters (history c.args.timeline.now) c.args.list.now) c.in_ok-watch.watch c.run.new.watch
     c.in_ok-ran.ran (are-counters (history c.args.timeline.now) c.args.list.now) c.in_ok-watch.ensures.list
-    c.in_ok-watch.ensures.counters run.quiet (c.in_ok-ran.ensures.asked refl))
+    c.in_ok-watch.ensures.counters (c.in_ok-ran.ensures.asked refl))
     c.if-ran.true ended)
     c.ended_by.ensures.end
 
@@ -58,7 +58,7 @@ returns-clause-counted c =
     c.args.list.now c.args.most c.in_ok-ran.ran c.of.result run
     (counted _ c.args.list.now (counters (history c.args.timeline.now) c.args.list.now) c.in_ok-watch.watch c.run.new.watch
     c.in_ok-ran.ran (are-counters (history c.args.timeline.now) c.args.list.now) c.in_ok-watch.ensures.list
-    c.in_ok-watch.ensures.counters run.quiet (c.in_ok-ran.ensures.asked refl)).run
+    c.in_ok-watch.ensures.counters (c.in_ok-ran.ensures.asked refl)).run
     c.if-ran.false c.of.ensures.made c.of.ensures.cause
 
 pub returns-then-ran-clause-lines : goal.returns-then-ran-clause-lines
@@ -69,10 +69,10 @@ returns-then-ran-clause-lines c =
     both_ok c.ended_by.result _ _ _ c.ended_by.ensures.end c.ended_by.ensures.lines
     (λ end ended lines is none.
     lines
-    ∙ lines_of (history c.args.timeline.now) (history c.run.new.self) c.args.list.now c.in_ok-ran.ran c.run.new.watch end _ c.in_ok-ran.ensures.happened
+    ∙ lines_of (machine_of (history c.args.timeline.now)) c.args.list.now c.in_ok-ran.ran c.run.new.watch end _
     (watched _ c.args.list.now c.in_ok-watch.watch c.run.new.watch c.in_ok-ran.ran c.in_ok-watch.ensures.list
-    c.in_ok-watch.ensures.seen run.quiet (c.in_ok-ran.ensures.asked refl))
-    c.if-ran.true ended is)
+    (c.in_ok-ran.ensures.asked refl))
+    c.if-ran.true ended)
 
 pub returns-clause-lines : goal.returns-clause-lines
 returns-clause-lines c =

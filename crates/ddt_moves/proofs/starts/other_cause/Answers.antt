@@ -1,8 +1,9 @@
-use Rattle.std.proofs.Common.{◌≡◌, ◌<◌, ◌+◌, ◌∙◌, ap, drop, get_or, length, refl, subst, sym, ℕ, Bool, true, false, List, ◌∷◌}
+use Rattle.std.proofs.Common.{◌≡◌, ◌<◌, ◌+◌, ◌∙◌, ap, drop, get_or, length, refl, subst, sym, ℕ, Bool, true, false, List, [], ◌∷◌}
 use Rattle.std.proofs.Common.{Option, Some, None}
 use Rattle.std.specs.Option.{IfSome}
 use Rattle.std.proofs.lemmas.List.{at_drop_more}
 use Rattle.machine.specs.Machine.{S}
+use Rattle.run_events.specs.declared.facts.Fact.{Fact}
 use Rattle.ddt_moves.specs.OtherEnds.{counted_cause, ends_for}
 use Rattle.ddt_moves.specs.StopLists.{or_slot}
 use Rattle.ddt_moves.specs.Visits.{first_due_at_start, is_due_at_start, slot_if}
@@ -12,11 +13,11 @@ use Rattle.ddt_moves.specs.declared.visits.Counter.{Counter}
 use Rattle.ddt_moves.proofs.starts.other_cause.Goals as goal
 
 counted_ends : (list : StopList) (s other : S) (found : Option Cause) → s ≡ other
-    → IfSome found (λ cause. (granted : Bool) → ends_for list s granted (Some cause) ≡ true)
-    → ends_for list other false found ≡ true
+    → IfSome found (λ cause. (facts : List Fact) → ends_for list s facts (Some cause) ≡ true)
+    → ends_for list other [] found ≡ true
 counted_ends list s other None same counted = refl
 counted_ends list s other (Some cause) same counted =
-    ap (λ (x : S). ends_for list x false (Some cause)) (sym same) ∙ counted false
+    ap (λ (x : S). ends_for list x [] (Some cause)) (sym same) ∙ counted []
 
 -- a counter that is due is the first of those that are left
 due_first : (first last : ℕ) (cs : List Counter) (i : ℕ) (c : Counter) → i < length cs → c ≡ get_or cs i c

@@ -1,8 +1,7 @@
-use Rattle.std.proofs.Common.{◌≡◌, ◌≤◌, ◌+◌, ◌-◌, ◌∙◌, ℕ, sym, ap, subst, arith}
+use Rattle.std.proofs.Common.{◌≡◌, ◌≤◌, ◌+◌, ◌-◌, ◌∙◌, sym, ap, refl, arith}
 use Rattle.machine.specs.Machine.{S}
 use Rattle.ddt_timeline.specs.Runs.{some_go_on}
-use Rattle.ddt_timeline.specs.Asking.{Asked}
-use Rattle.ddt_timeline.proofs.AskingLemmas.{asked_last, asked_so_far, one_round}
+use Rattle.ddt_timeline.proofs.AskingLemmas.{asked_more, asked_so_far, no_stop_by, watched_by}
 use Rattle.ddt_timeline.proofs.AtOnce.{at_once, none_behind}
 use Rattle.ddt_timeline.proofs.GoingOn.{going_behind}
 use Rattle.ddt_timeline.proofs.RunLemmas.{noted_on}
@@ -13,50 +12,44 @@ loop-next-preserved g c =
     let none_yet = c.loop-next.invariant.none_yet (c.may_go_on.ensures.stop c.loop-next-test.true) in
     let few = c.may_go_on.ensures.few c.loop-next-test.true in
     let x =
-    at_once c.args.machine.now c.args.stops.now c.loop-next.stops c.loop-next.ran.made c.rounds_to-rounds.result.made c.loop-next.machine
-    c.rounds_to-rounds.new.self c.rounds_to-rounds.result.job c.first_met-ran.result c.args.addresses.now c.loop-next.invariant.state
-    c.loop-next.invariant.stood c.rounds_to-rounds.ensures.state c.rounds_to-rounds.ensures.next c.rounds_to-rounds.ensures.least
-    (λ (two : 2 ≤ c.rounds_to-rounds.result.made).
-    c.most_at_once-at_once.ensures.many (c.most_next-next.ensures.many (omega (arith, two, c.rounds_to-rounds.ensures.most))))
-    c.rounds_to-rounds.ensures.between c.first_met-ran.ensures in
+    at_once c.args.machine.now c.args.stops.now c.loop-next.stops c.loop-next.ran.made c.make_rounds-ends.result.0.made c.loop-next.machine
+    c.make_rounds-ends.new.machine c.make_rounds-ends.result.0.job c.first_met-ran.result c.args.addresses.now c.loop-next.invariant.state
+    c.loop-next.invariant.stood c.make_rounds-ends.ensures.state c.make_rounds-ends.ensures.next c.make_rounds-ends.ensures.least
+    (λ (two : 2 ≤ c.make_rounds-ends.result.0.made).
+    c.most_at_once-at_once.ensures.many (c.most_next-next.ensures.many (omega (arith, two, c.make_rounds-ends.ensures.most))))
+    c.make_rounds-ends.ensures.between c.first_met-ran.ensures in
     record {
-      few = omega (arith, few, c.most_next-next.ensures.most, c.rounds_to-rounds.ensures.most);
+      few = omega (arith, few, c.most_next-next.ensures.most, c.make_rounds-ends.ensures.most);
       state = x.state;
       none_over = x.none_over none_yet;
       none_yet =
           λ none.
-          none_behind c.args.machine.now c.args.stops.now c.loop-next.ran.made c.rounds_to-rounds.result.made c.loop-next.machine
-          c.rounds_to-rounds.new.self c.first_met-ran.result x none none_yet;
+          none_behind c.args.machine.now c.args.stops.now c.loop-next.ran.made c.make_rounds-ends.result.0.made c.loop-next.machine
+          c.make_rounds-ends.new.machine c.first_met-ran.result x none none_yet;
       last = λ _. x.last;
-      nothing = λ none. absurd (omega (arith, none, c.rounds_to-rounds.ensures.least));
-      quiet = c.is_ended_by.ensures.quiet;
+      nothing = λ none. absurd (omega (arith, none, c.make_rounds-ends.ensures.least));
+      quiet = no_stop_by c.make_rounds-ends.result.1 _ c.first_met-ran.result c.is_ended_by.ensures;
       going =
-          going_behind c.args.machine.now c.loop-next.machine c.loop-next.ran.made c.rounds_to-rounds.result.made
-          c.rounds_to-rounds.result.job c.args.addresses.now c.loop-next.invariant.state c.rounds_to-rounds.ensures.next
-          (λ (two : 2 ≤ c.rounds_to-rounds.result.made).
-          c.loop-next.invariant.ready (c.most_next-next.ensures.ready (omega (arith, two, c.rounds_to-rounds.ensures.most))))
-          (c.may_go_on.ensures.going c.loop-next-test.true) c.rounds_to-rounds.ensures.between c.loop-next.invariant.going;
+          going_behind c.args.machine.now c.loop-next.machine c.loop-next.ran.made c.make_rounds-ends.result.0.made
+          c.make_rounds-ends.result.0.job c.args.addresses.now c.loop-next.invariant.state c.make_rounds-ends.ensures.next
+          (λ (two : 2 ≤ c.make_rounds-ends.result.0.made).
+          c.loop-next.invariant.ready (c.most_next-next.ensures.ready (omega (arith, two, c.make_rounds-ends.ensures.most))))
+          (c.may_go_on.ensures.going c.loop-next-test.true) c.make_rounds-ends.ensures.between c.loop-next.invariant.going;
       ready = c.can_run_again-is_ready.ensures;
-      watched = c.is_ended_by.ensures.watched;
-      fresh = λ none. absurd (omega (arith, none, c.rounds_to-rounds.ensures.least));
+      watched = λ ended. watched_by _ c.make_rounds-ends.result.1 _ c.first_met-ran.result c.is_ended_by.ensures ended c.make_rounds-ends.ensures.quiet;
+      fresh = λ none. absurd (omega (arith, none, c.make_rounds-ends.ensures.least));
       asked =
           λ watched _.
-          let one : c.rounds_to-rounds.result.made ≡ 1 =
-          one_round _ _ _ (c.most_at_once-at_once.ensures.watched watched) c.most_next-next.ensures.many c.rounds_to-rounds.ensures.most
-          c.rounds_to-rounds.ensures.least in
-          let before : c.loop-next.ran.made + c.rounds_to-rounds.result.made - 1 ≡ c.loop-next.ran.made = omega (arith, one) in (
-            c.loop-next.watch,
-            subst (λ (n : ℕ). Asked g.W.Watch.Asks c.args.machine.now c.args.watch.now c.loop-next.watch n) (sym before)
-                (asked_so_far g.W.Watch.Asks c.args.machine.now c.args.watch.now c.loop-next.watch c.loop-next.ran.made c.loop-next.ran.stop
-                c.loop-next.ran.by_watch (c.may_go_on.ensures.stop c.loop-next-test.true) (c.may_go_on.ensures.quiet c.loop-next-test.true)
-                c.loop-next.invariant.fresh (c.loop-next.invariant.asked watched)),
-            asked_last g.W.Watch.Asks c.args.machine.now c.loop-next.watch c.is_ended_by.new.watch c.loop-next.machine c.rounds_to-rounds.new.self
-                c.loop-next.ran.made (c.loop-next.ran.made + c.rounds_to-rounds.result.made) c.rounds_to-rounds.result.job c.first_met-ran.result
-                c.is_ended_by.result before c.loop-next.invariant.state x.state c.rounds_to-rounds.ensures.next c.is_ended_by.ensures.unasked
-                (λ none. c.is_ended_by.ensures.asked watched none),
-          );
+          let one : c.make_rounds-ends.result.0.made ≡ 1 = c.make_rounds-ends.ensures.one watched in
+          let before : c.loop-next.ran.made + c.make_rounds-ends.result.0.made - 1 ≡ c.loop-next.ran.made = omega (arith, one) in
+          asked_more g.W.Watch.Asks c.args.machine.now c.args.watch.now c.loop-next.watch c.make_rounds-ends.new.watch c.loop-next.machine
+          c.loop-next.ran.made _ c.first_met-ran.result c.make_rounds-ends.result.1 _ before c.loop-next.invariant.state
+          (asked_so_far g.W.Watch.Asks c.args.machine.now c.args.watch.now c.loop-next.watch c.loop-next.ran.made c.loop-next.ran.stop
+          c.loop-next.ran.by_watch (c.may_go_on.ensures.stop c.loop-next-test.true) (c.may_go_on.ensures.quiet c.loop-next-test.true)
+          c.loop-next.invariant.fresh (c.loop-next.invariant.asked watched))
+          (c.make_rounds-ends.ensures.asked watched) c.is_ended_by.ensures;
       stood =
-          noted_on c.args.stops.now c.loop-next.stops _ c.loop-next.machine c.rounds_to-rounds.new.self c.loop-next.invariant.stood
+          noted_on c.args.stops.now c.loop-next.stops _ c.loop-next.machine c.make_rounds-ends.new.machine c.loop-next.invariant.stood
           c.note_stood-in-loop-next.ensures;
     }
 

@@ -1,0 +1,4 @@
+pub mod Slots
+pub mod SameSlots
+pub mod Requests
+pub mod SameRequests
