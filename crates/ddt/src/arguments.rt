@@ -12,7 +12,7 @@ pub struct Arguments<'a> {
     pub from: Packing,
     /// The file whose lines are typed where a job waits for characters, if there is one.
     pub input: Option<&'a str>,
-    /// The names of the programs' files, 1 to 63: sources, and core images.
+    /// The arguments that name the programs' files, 1 to 63: sources, each of one file or several, and core images.
     pub files: Vec<&'a str>,
     /// The names of all files that are read: these, and behind them that of the input.
     pub inputs: Vec<&'a str>,

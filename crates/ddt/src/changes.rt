@@ -1,6 +1,6 @@
 //! Commands that change the machine by hand: words, where jobs start, and what is typed in and out.
 
-use crate::examining::open;
+use crate::examining::{open, put_mask};
 use crate::runs::run_from_start;
 use crate::session::Session;
 use ddt_commands::{Refusal, first_character};
@@ -15,6 +15,9 @@ use word36::{Address, Word};
 pub fn deposit(session: &mut Session, timeline: &mut Timeline, word: Word) {
     if !session.is_open {
         return refuse(&mut session.answer, Refusal::NotOpen);
+    }
+    if session.is_mask {
+        return put_mask(session, word);
     }
     if timeline
         .machine()

@@ -13,12 +13,13 @@ pub fn open(session: &mut Session, timeline: &Timeline, address: u32) {
     }
     session.here = address;
     session.is_open = true;
+    session.is_mask = false;
 }
 
 /// `=`, `_` and `;`: shows the last quantity in a mode.
 pub fn show_last(session: &mut Session, mode: OutputMode) {
-    if let Some(job) = session.open_job() {
-        let line = word_line(session.alloc, &job.shown, session.last, mode);
+    if let Some(job) = session.shown(session.open) {
+        let line = word_line(session.alloc, job, session.last, mode);
         session.answer.say_made(line);
     }
 }
@@ -43,6 +44,29 @@ fn open_unseen(session: &mut Session, timeline: &Timeline, address: u32) {
     session.last = word;
     session.here = address;
     session.is_open = true;
+    session.is_mask = false;
+}
+
+/// `$M/`: opens the mask of searches, and shows it in octal.
+pub fn open_mask(session: &mut Session) {
+    let (alloc, mask) = (session.alloc, session.mask);
+    session.answer.say_made(format!(in alloc; "$M/ {mask}\n"));
+    session.last = mask;
+    session.is_open = true;
+    session.is_mask = true;
+}
+
+/// `$M/ value`: shows the mask of searches, and puts the value there.
+pub fn change_mask(session: &mut Session, mask: Word) {
+    open_mask(session);
+    put_mask(session, mask);
+}
+
+/// Puts a value in the mask of searches, which is open, and closes it.
+pub fn put_mask(session: &mut Session, mask: Word) {
+    session.mask = mask;
+    session.last = mask;
+    session.is_open = false;
 }
 
 /// `value=`, `value_` and `value;`: shows a value in octal, as an instruction, or as text.

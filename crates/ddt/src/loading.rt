@@ -5,10 +5,10 @@ use ddt_show::ShownJob;
 use ddt_timeline::{Entry, Timeline};
 use image_files::Packing;
 use monitor::{Answer, RefusedEvent};
-use program_files::read_programs;
+use program_files::{ProgramFile, read_programs};
 use program_shell::PendingText;
 use shown_bytes::push_shown;
-use source_labels::{MOST_REPORTED, Program, Source};
+use source_labels::{MOST_REPORTED, Program};
 
 /// Adds a job that was logged in.
 fn add_job(session: &mut Session, file: &str, shown: ShownJob, written: Option<Vec<u8>>) {
@@ -66,7 +66,7 @@ fn log_in(session: &mut Session, timeline: &mut Timeline, program: Program<'_>) 
 pub fn begin(
     session: &mut Session,
     timeline: &mut Timeline,
-    sources: &[Source<'_>],
+    sources: &[ProgramFile<'_>],
     from: Packing,
 ) -> bool {
     let Some(programs) = read_programs(sources, from, MOST_REPORTED, &mut session.answer) else {

@@ -1,15 +1,15 @@
 //! Lines that are obeyed.
 
 use crate::changes::{change, deposit, make, start_at, take, type_at};
-use crate::examining::{evaluate, examine, open, open_as, show_last};
+use crate::examining::{change_mask, evaluate, examine, open, open_as, open_mask, show_last};
 use crate::going_back::{back, back_to, back_to_write, forward};
 use crate::histories::show_history;
 use crate::recording::record;
-use crate::runs::{execute, execute_call, go, proceed, step};
+use crate::runs::{execute, execute_call, execute_word, go, proceed, proceed_on, step};
 use crate::searches::search;
 use crate::session::Session;
 use crate::stop_commands::{
-    set, show_stops, stop_at_circles, stop_at_grants, stop_at_lock, unset, watch,
+    set, show_one, show_stops, stop_at_circles, stop_at_grants, stop_at_lock, unset, watch,
 };
 use crate::tables::{open_job, show_jobs, show_locks, show_registers, show_waits};
 use ddt_commands::{Command, LineError, RUN_STEPS, read_line};
@@ -119,7 +119,9 @@ fn obey(session: &mut Session, timeline: &mut Timeline, command: &Command<'_>) {
 fn makes_happen(command: &Command<'_>) -> bool {
     match *command {
         Command::Proceed(_)
+        | Command::ProceedOn
         | Command::Execute(_)
+        | Command::ExecuteWord(_)
         | Command::ExecuteCall
         | Command::Step(_)
         | Command::Run(_)
@@ -142,6 +144,8 @@ fn obey_move(session: &mut Session, timeline: &mut Timeline, command: &Command<'
         Command::Go => go(session, timeline),
         Command::GoAt(address) => start_at(session, timeline, address),
         Command::Proceed(times) => proceed(session, timeline, times, RUN_STEPS as u32),
+        Command::ProceedOn => proceed_on(session, timeline),
+        Command::ExecuteWord(word) => execute_word(session, timeline, word),
         Command::Run(most) => proceed(session, timeline, 1, most),
         Command::Execute(count) => execute(session, timeline, count),
         Command::ExecuteCall => execute_call(session, timeline),
@@ -163,6 +167,10 @@ fn obey_look(session: &mut Session, timeline: &Timeline, command: &Command<'_>) 
         Command::OpenAs(address, opening) => open_as(session, timeline, address, opening),
         Command::Evaluate(word, retype) => evaluate(session, word, retype),
         Command::SetMode(mode) => session.mode = mode,
+        Command::SetAddresses(is_absolute) => session.is_absolute = is_absolute,
+        Command::OpenMask => open_mask(session),
+        Command::ChangeMask(mask) => change_mask(session, mask),
+        Command::ShowBreakpoint(number) => show_one(session, number),
         Command::Retype(retype) => show_last(session, retype.mode()),
         Command::Examine(first, last) => examine(session, timeline, first, last),
         Command::Search(wanted) => search(session, timeline, &wanted),

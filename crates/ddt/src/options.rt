@@ -4,7 +4,7 @@ use crate::arguments::Arguments;
 use crate::texts;
 use clap::{Arg, ArgMatches, Command};
 use machine::{Config, MOST_QUANTUM};
-use program_files::{make_from, packing_in};
+use program_files::{inputs_in, make_from, packing_in};
 use program_shell::{
     Refusal, Wrong, files_in, make_command, matches_of, refused, size_in, with_files,
 };
@@ -53,7 +53,7 @@ fn read<'a>(alloc: Global, matches: &ArgMatches<'a>) -> Result<Arguments<'a>, Wr
     let size = size_in(matches, MOST_QUANTUM)?;
     let files = files_in(alloc, matches)?;
     let input = matches.get_str("input");
-    let mut inputs = files_in(alloc, matches)?;
+    let mut inputs = inputs_in(alloc, files.as_slice())?;
     inputs.extend_from_slice(input.as_slice())?;
     Ok(Arguments {
         config: Config::new(size.blocks, size.quantum).unwrap(),

@@ -11,12 +11,12 @@ use crate::session::Session;
 use crate::texts;
 use ddt_moves::InputLines;
 use ddt_timeline::Timeline;
+use program_files::{ProgramFile, read_files};
 use program_shell::{
     Answers, DONE, FAILED, Failure, Host, PendingText, REFUSED, Refusal, Stream, USAGE,
     refusal_text,
 };
 use script_io::ByteOut;
-use source_labels::Source;
 use std::alloc::{AllocError, Global};
 use std::io::ErrorKind;
 
@@ -28,13 +28,13 @@ fn read_sources<'a, H: Host>(
     host: &H,
     files: &[&'a str],
     report: &mut PendingText,
-    sources: &mut Vec<Source<'a>>,
+    sources: &mut Vec<ProgramFile<'a>>,
 ) -> bool {
     for file in files {
-        let Some(text) = read_file(host, ERROR_HEAD, file, report) else {
+        let Some(read) = read_files(host, ERROR_HEAD, file, file, report) else {
             return false;
         };
-        if sources.push(Source { file, text }).is_err() {
+        if sources.push(read).is_err() {
             report.fail();
         }
     }

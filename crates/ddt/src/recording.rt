@@ -2,14 +2,13 @@
 
 use crate::session::{Session, SessionJob};
 use ddt_commands::Refusal;
-use ddt_moves::is_edited;
+use ddt_moves::{is_edited, is_executed};
 use ddt_show::refuse;
 use ddt_timeline::{Timeline, push_past};
 use machine::Config;
-use program_files::is_image_name;
+use program_files::{ProgramFile, is_image_name};
 use program_shell::PendingText;
 use run_record::{push_end, push_head, push_program, unquotable_line};
-use source_labels::Source;
 use std::alloc::{AllocError, Global};
 
 /// The sources of a session, as a script begins with them.
@@ -31,9 +30,9 @@ impl ScriptHead {
     }
 
     /// Adds the source of a job as the program of its number, or why it cannot stand in a script.
-    fn add(&mut self, job: &SessionJob, source: &Source<'_>) -> Result<(), AllocError> {
+    fn add(&mut self, job: &SessionJob, source: &ProgramFile<'_>) -> Result<(), AllocError> {
         let (alloc, file) = (self.refusals.alloc, job.file.as_str());
-        if is_image_name(source.file) {
+        if is_image_name(source.source.file) {
             self.refusals.say("? ");
             self.refusals.say(file);
             self.refusals.say(
@@ -41,10 +40,14 @@ impl ScriptHead {
             );
             return Ok(());
         }
-        let text = job.source_for(source.text.as_slice());
+        let text = job.source_for(source.source.text.as_slice());
         match unquotable_line(text) {
             Some(line) => {
-                let (number, reason) = (line.number, line.reason);
+                let reason = line.reason;
+                let (file, number) = match job.written {
+                    None if !source.parts.is_empty() => source.spot(line.number),
+                    _ => (file, line.number),
+                };
                 self.refusals.say_made(format!(in alloc;
                     "? {file}:{number}: not recorded: the line {reason}\n"
                 ));
@@ -59,7 +62,7 @@ impl ScriptHead {
         &mut self,
         config: Config,
         jobs: &[SessionJob],
-        sources: &[Source<'_>],
+        sources: &[ProgramFile<'_>],
     ) -> Result<(), AllocError> {
         push_head(&mut self.text, config.blocks(), config.quantum())?;
         for (job, source) in jobs.iter().zip(sources) {
@@ -95,6 +98,7 @@ pub fn record(session: &mut Session, timeline: &Timeline) {
     match make_script(&mut session.script, head.text.as_slice(), timeline) {
         Ok(true) => return,
         Ok(false) if is_edited(timeline) => refuse(&mut session.answer, Refusal::Deposited),
+        Ok(false) if is_executed(timeline) => refuse(&mut session.answer, Refusal::Executed),
         Ok(false) => refuse(&mut session.answer, Refusal::StartedAt),
         Err(_) => session.answer.fail(),
     }

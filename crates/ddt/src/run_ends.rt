@@ -1,8 +1,8 @@
 //! What is reported of a run that ended.
 
 use crate::session::Session;
-use crate::tables::show_waits;
-use ddt_moves::{Cause, RunEnd, is_edited, turn_at};
+use crate::tables::{say_edits, show_waits};
+use ddt_moves::{Cause, RunEnd, turn_at};
 use ddt_show::change_text;
 use ddt_timeline::Timeline;
 use word36::Word;
@@ -102,7 +102,5 @@ fn report_cause(session: &mut Session, timeline: &Timeline, end: RunEnd, most: u
 pub fn report_end(session: &mut Session, timeline: &Timeline, end: RunEnd, most: u32) {
     session.is_open = false;
     report_cause(session, timeline, end, most);
-    if is_edited(timeline) {
-        session.answer.say("edited: words were deposited\n");
-    }
+    say_edits(&mut session.answer, timeline, "", "\n");
 }

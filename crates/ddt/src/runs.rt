@@ -2,14 +2,17 @@
 
 use crate::run_ends::report_end;
 use crate::session::Session;
-use ddt_commands::{RUN_STEPS, Refusal};
+use ddt_commands::{MOST_TIMES, RUN_STEPS, Refusal};
 use ddt_moves::{
     Cause, RunEnd, RunStops, begin, cause_at_start, go_on, is_stopped, run_to, start_jobs, stops_of,
 };
 use ddt_show::refuse;
 use ddt_timeline::{Stop, Timeline, some_go_on};
+use job_sched::Wait;
+use ka_state::{Outcome, StopReason};
+use run_notes::stop_text;
 use std::alloc::AllocError;
-use word36::Word;
+use word36::{Address, Word};
 
 /// The most steps of a run whose command gives no number of steps.
 const MOST_STEPS: u32 = RUN_STEPS as u32;
@@ -100,29 +103,48 @@ pub fn go(session: &mut Session, timeline: &mut Timeline) {
 pub fn run_from_start(session: &mut Session, timeline: &mut Timeline) {
     let lines = session.lines();
     let begun = cause_at_start(timeline, 1, lines, &session.list);
-    proceed_from(session, timeline, begun, 1, MOST_STEPS);
+    proceed_from(session, timeline, begun, 1, MOST_STEPS, false);
 }
 
 /// `n$P` and `.RUN n`: lets the jobs go on up to the n-th breakpoint, for `most` steps at most up to each, and continues the open
 /// one where CTRL-C or EXIT 1 stopped it.
 pub fn proceed(session: &mut Session, timeline: &mut Timeline, times: u32, most: u32) {
+    let begun = continue_open(session, timeline);
+    proceed_from(session, timeline, begun, times, most, false);
+}
+
+/// `$$P`: lets the jobs go on as `$P` does, past each breakpoint, which is shown, `MOST_TIMES` of them at most.
+pub fn proceed_on(session: &mut Session, timeline: &mut Timeline) {
+    let begun = continue_open(session, timeline);
+    proceed_from(
+        session,
+        timeline,
+        begun,
+        MOST_TIMES as u32,
+        MOST_STEPS,
+        true,
+    );
+}
+
+/// Continues the open job where CTRL-C or EXIT 1 stopped it, and gives why a run makes no step then.
+fn continue_open(session: &Session, timeline: &mut Timeline) -> Result<Option<Cause>, AllocError> {
     let open = session.open;
-    let begun = match go_on(timeline, open) {
+    match go_on(timeline, open) {
         Ok(true) => cause_at_start(timeline, open, open, &session.list),
         Ok(false) => Ok(None),
         Err(error) => Err(error),
-    };
-    proceed_from(session, timeline, begun, times, most);
+    }
 }
 
 /// Lets the jobs go on up to the n-th breakpoint. A job that was started or continued just now may stand where runs stop: then
-/// that is the first of the stops, and no step is made before it.
+/// that is the first of the stops, and no step is made before it. Each breakpoint on the way is shown if `shows_all`.
 fn proceed_from(
     session: &mut Session,
     timeline: &mut Timeline,
     begun: Result<Option<Cause>, AllocError>,
     times: u32,
     most: u32,
+    shows_all: bool,
 ) {
     // A cause may hold a word: the prover wants its type to be named.
     let _word: Option<Word> = None;
@@ -134,6 +156,9 @@ fn proceed_from(
     for _ in 1..times {
         if !matches!(end.cause, Some(Cause::Breakpoint(_, _, _))) {
             break;
+        }
+        if shows_all {
+            report_end(session, timeline, end, most);
         }
         end = run(session, timeline, &[], most);
     }
@@ -167,16 +192,85 @@ pub fn execute_call(session: &mut Session, timeline: &mut Timeline) {
         return session.answer.fail();
     }
     match timeline.machine().job(number) {
-        Some(view) => {
-            let own = [
-                Stop::At(number, view.pc.plus(1), None),
-                Stop::At(number, view.pc.plus(2), None),
-                Stop::End(number),
-            ];
-            let end = run(session, timeline, &own, MOST_STEPS);
-            report_end(session, timeline, end, MOST_STEPS);
-        }
+        Some(view) => run_to_return(session, timeline, view.pc.plus(1)),
         None => session.show_job(timeline, number),
+    }
+}
+
+/// Lets the open job go on until it comes to an address, where a call returns, or to the one behind it, or ends.
+fn run_to_return(session: &mut Session, timeline: &mut Timeline, address: Address) {
+    // A stop may hold a word, of which these have none: the prover wants its type to be named.
+    let _word: Option<Word> = None;
+    let number = session.open;
+    let own = [
+        Stop::At(number, address, None),
+        Stop::At(number, address.plus(1), None),
+        Stop::End(number),
+    ];
+    let end = run(session, timeline, &own, MOST_STEPS);
+    report_end(session, timeline, end, MOST_STEPS);
+}
+
+/// Why an instruction that is typed is not executed, by how the processor ends it; `None` where it is complete.
+fn refusal_of(end: &Option<Outcome>) -> Option<Refusal> {
+    match end {
+        None => Some(Refusal::Gone),
+        Some(Outcome::Done | Outcome::Stop(StopReason::Pushdown)) => None,
+        Some(Outcome::Call(_, _, _)) => Some(Refusal::CallsMonitor),
+        Some(Outcome::Stop(reason)) => Some(Refusal::Stops(stop_text(job_sched::Stop::Fault(
+            *reason,
+        )))),
+    }
+}
+
+/// `instr$X`: executes an instruction for the open job as if it stood before the one at its PC, without a step or a tick. Where it
+/// jumps, as a call does, the job goes on until it comes back to its PC or to the address behind that, or ends. An instruction that
+/// is refused changes nothing, but a job that was not started is started, as by `$X`.
+pub fn execute_word(session: &mut Session, timeline: &mut Timeline, word: Word) {
+    let number = session.open;
+    if begin(timeline, number).is_err() {
+        return session.answer.fail();
+    }
+    let Some(view) = timeline.machine().job(number) else {
+        return refuse(&mut session.answer, Refusal::Gone);
+    };
+    if view.wait != Wait::None {
+        return refuse(&mut session.answer, Refusal::Waits);
+    }
+    let Ok(end) = timeline.execute(number, word) else {
+        return session.answer.fail();
+    };
+    match refusal_of(&end) {
+        Some(refusal) => refuse(&mut session.answer, refusal),
+        None => show_executed(session, timeline, view.pc, end),
+    }
+}
+
+/// Shows what an instruction that was executed by hand has led to, before which the open job's PC was this.
+fn show_executed(
+    session: &mut Session,
+    timeline: &mut Timeline,
+    pc: Address,
+    end: Option<Outcome>,
+) {
+    let number = session.open;
+    session.is_open = false;
+    if matches!(end, Some(Outcome::Stop(_))) {
+        session
+            .answer
+            .say("pushdown overflow: the instruction is complete\n");
+    }
+    let is_back = match timeline.machine().job(number) {
+        Some(view) => view.stop.is_some() || view.pc == pc || view.pc == pc.plus(1),
+        None => true,
+    };
+    if is_back {
+        return session.show_next(timeline);
+    }
+    match cause_at_start(timeline, number, number, &session.list) {
+        Ok(None) => run_to_return(session, timeline, pc),
+        Ok(cause) => report_end(session, timeline, RunEnd::at_once(cause), MOST_STEPS),
+        Err(_) => session.answer.fail(),
     }
 }
 

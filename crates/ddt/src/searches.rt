@@ -8,8 +8,8 @@ use ddt_timeline::Timeline;
 use word36::{BLOCK_WORDS, Word};
 
 /// Whether a search finds a word of a job.
-fn is_found(machine: &Machine, number: u8, search: &Search, word: Word) -> bool {
-    let mask = search.mask.number();
+fn is_found(machine: &Machine, number: u8, search: &Search, mask: Word, word: Word) -> bool {
+    let mask = mask.number();
     let is_equal = word.number() & mask == search.value.number() & mask;
     match search.kind {
         SearchKind::Equal => is_equal,
@@ -21,6 +21,14 @@ fn is_found(machine: &Machine, number: u8, search: &Search, word: Word) -> bool 
     }
 }
 
+/// The addresses that a search looks at, of a job that has so many words of core: the first, and that behind the last.
+fn range_of(search: &Search, words: u32) -> (u32, u32) {
+    match search.range {
+        Some((first, last)) => (first, words.min(last.saturating_add(1))),
+        None => (0, words),
+    }
+}
+
 /// `value<mask>$W` and the like: shows the words in the core of the open job that a search finds, or that it finds none.
 pub fn search(session: &mut Session, timeline: &Timeline, search: &Search) {
     let number = session.open;
@@ -28,11 +36,13 @@ pub fn search(session: &mut Session, timeline: &Timeline, search: &Search) {
         return session.show_job(timeline, number);
     };
     let mut is_any = false;
-    for address in 0..view.blocks.saturating_mul(BLOCK_WORDS as u32) {
+    let mask = search.mask.unwrap_or(session.mask);
+    let (first, end) = range_of(search, view.blocks.saturating_mul(BLOCK_WORDS as u32));
+    for address in first..end {
         let Some(word) = timeline.machine().peek(number, address) else {
             break;
         };
-        if is_found(timeline.machine(), number, search, word) {
+        if is_found(timeline.machine(), number, search, mask, word) {
             session.show_address(timeline, address);
             session.here = address;
             is_any = true;

@@ -8,6 +8,7 @@ use ddt_show::{ShownJob, address_line, address_text, job_line};
 use ddt_timeline::Timeline;
 use job_sched::Wait;
 use program_shell::PendingText;
+use source_labels::{Literals, Places};
 use std::alloc::{AllocError, Global};
 use word36::{JOBS, Word};
 
@@ -64,6 +65,14 @@ pub struct Session {
     pub here: u32,
     /// Whether an address is open.
     pub is_open: bool,
+    /// Whether the mask of searches is open in place of an address.
+    pub is_mask: bool,
+    /// The mask of searches: `$M`.
+    pub mask: Word,
+    /// Whether addresses are shown as numbers.
+    pub is_absolute: bool,
+    /// A job without labels, as which each is shown then.
+    pub bare: ShownJob,
     /// The last quantity: `$Q`.
     pub last: Word,
     /// The stops that the user sets.
@@ -84,6 +93,16 @@ pub struct Session {
     pub script: Vec<u8>,
 }
 
+/// No labels and no literals.
+fn no_places(alloc: Global) -> Places {
+    Places {
+        labels: Vec::new(alloc),
+        literals: Literals { first: 0, end: 0 },
+        pools: Vec::new(alloc),
+        numbers: Vec::new(alloc),
+    }
+}
+
 impl Session {
     /// A session without jobs, whose first will be open.
     pub fn new(alloc: Global) -> Self {
@@ -94,6 +113,13 @@ impl Session {
             mode: OutputMode::Symbolic,
             here: 0,
             is_open: false,
+            is_mask: false,
+            mask: Word::new(0).not(),
+            is_absolute: false,
+            bare: ShownJob {
+                number: 0,
+                places: no_places(alloc),
+            },
             last: Word::new(0),
             list: StopList::new(),
             grants: String::new(alloc),
@@ -126,6 +152,15 @@ impl Session {
         self.job(self.open)
     }
 
+    /// The job by whose labels addresses are shown: of a number, or that without labels.
+    pub fn shown(&self, number: u8) -> Option<&ShownJob> {
+        match self.job(number) {
+            Some(job) if !self.is_absolute => Some(&job.shown),
+            Some(_) => Some(&self.bare),
+            None => None,
+        }
+    }
+
     /// What the symbols of a line stand for, by the open job.
     pub fn scope(&self) -> Scope<'_> {
         let symbols = match self.open_job() {
@@ -141,8 +176,8 @@ impl Session {
 
     /// Adds an address of a job: `LOOP+3`.
     pub fn say_address(&mut self, job: u8, address: u32) {
-        let text = match self.job(job) {
-            Some(job) => address_text(self.alloc, &job.shown, address),
+        let text = match self.shown(job) {
+            Some(job) => address_text(self.alloc, job, address),
             None => format!(in self.alloc; "{address:o}"),
         };
         self.answer.say_made(text);
@@ -153,8 +188,8 @@ impl Session {
         let Some(word) = timeline.machine().peek(self.open, address) else {
             return false;
         };
-        if let Some(job) = self.open_job() {
-            let line = address_line(self.alloc, &job.shown, address, word, self.mode);
+        if let Some(job) = self.shown(self.open) {
+            let line = address_line(self.alloc, job, address, word, self.mode);
             self.answer.say_made(line);
         }
         self.answer.end_line();

@@ -85,6 +85,15 @@ fn show_breakpoint(session: &mut Session, number: usize, breakpoint: &Breakpoint
     session.answer.end_line();
 }
 
+/// `$nB/`: shows a breakpoint.
+pub fn show_one(session: &mut Session, number: u8) {
+    let slot = usize::from(number).saturating_sub(1);
+    match session.list.breakpoints.get(slot).copied().flatten() {
+        Some(breakpoint) => show_breakpoint(session, usize::from(number), &breakpoint),
+        None => refuse(&mut session.answer, Refusal::NotSet),
+    }
+}
+
 /// Shows a word that is watched, or no longer: `watched job 1 COUNT`.
 fn show_watched(session: &mut Session, word: WatchedWord, is_watched: bool) {
     session.answer.say(if is_watched {

@@ -2,7 +2,7 @@
 
 use crate::session::Session;
 use ddt_commands::Refusal;
-use ddt_moves::is_edited;
+use ddt_moves::{is_edited, is_executed};
 use ddt_show::{lock_lines, refuse, register_lines, wait_lines};
 use ddt_timeline::Timeline;
 use program_shell::PendingText;
@@ -18,15 +18,26 @@ pub fn open_job(session: &mut Session, timeline: &Timeline, number: u8) {
     session.show_job(timeline, number);
 }
 
+/// Adds what was done by hand to all that has happened, behind some text; nothing where nothing was.
+pub fn say_edits(answer: &mut PendingText, timeline: &Timeline, before: &str, behind: &str) {
+    let text = match (is_edited(timeline), is_executed(timeline)) {
+        (false, false) => return,
+        (true, false) => "edited: words were deposited",
+        (false, true) => "edited: instructions were executed",
+        (true, true) => "edited: words were deposited, instructions were executed",
+    };
+    answer.say(before);
+    answer.say(text);
+    answer.say(behind);
+}
+
 /// `.JOBS`: shows how all jobs stand, how many steps have been made, and whether words have been deposited.
 pub fn show_jobs(session: &mut Session, timeline: &Timeline) {
     session.show_jobs(timeline);
     let (steps, ticks) = (timeline.steps(), timeline.ticks());
     session.answer.say_number("steps ", steps, ", ");
     session.answer.say_number("ticks ", ticks, "");
-    if is_edited(timeline) {
-        session.answer.say(", edited: words were deposited");
-    }
+    say_edits(&mut session.answer, timeline, ", ", "");
     session.answer.end_line();
 }
 

@@ -6,6 +6,7 @@ pub const PROGRAM: &str = "A debugger in the manner of DDT for programs in MACRO
 
 /// How the program is called.
 pub const PROGRAM_END: &str = "As in:  ddt examples/counter.mac\n\
+    A program of several files has all their names, as in pre.mac+prog.mac.\n\
     Commands are lines of standard input, answers go to standard output; .HELP lists the commands.\n\
     ESC is typed as $. Numbers are octal, and decimal with a point behind them; those of commands that\n\
     begin with a point are decimal.\n\

@@ -1,4 +1,7 @@
 //! Breakpoints, and the limits behind them: `a$nB IF b=v TIMES n`.
+ghost use Rattle.std.specs.Prelude.{IfOk};
+ghost use Rattle.ddt_commands.specs.DotLines.{IsBreakpoint};
+ghost use Rattle.ddt_commands.specs.Lines.{IsOfBreakpoint};
 
 use crate::commands::{Command, NewBreakpoint};
 use crate::escaped::{Escaped, cut_at_escape};
@@ -98,7 +101,9 @@ fn read_limits<'a>(
     number: Option<u8>,
     text: &[u8],
     scope: &Scope<'_>,
-) -> Result<Command<'a>, LineError> {
+) -> Result<Command<'a>, LineError>
+    ensures { IfOk result IsBreakpoint }
+{
     let (front, behind) = match cut_before(text, b"TIMES", b"TIMES") {
         Some(parts) => parts,
         None => (text, b"".as_slice()),
@@ -111,17 +116,26 @@ fn read_limits<'a>(
     }))
 }
 
+/// The number of a breakpoint, if digits are one.
+pub fn breakpoint_number(digits: &[u8]) -> Option<u8> {
+    match number(10, digits) {
+        Some(number) if 1 <= number && number <= BREAKPOINTS as u64 => Some(number as u8),
+        _ => None,
+    }
+}
+
 /// Reads `$B`, `a$B`, `a$nB` and `0$nB`, with the limits behind them.
 pub fn read_breakpoint<'a>(
-    line: Escaped<'_>,
+    line: &Escaped<'_>,
     limits: &[u8],
     scope: &Scope<'_>,
-) -> Result<Command<'a>, LineError> {
-    let number = match number(10, line.digits) {
-        Some(number) if 1 <= number && number <= BREAKPOINTS as u64 => Some(number as u8),
-        None if line.digits.is_empty() => None,
-        _ => return Err(LineError::NoBreakpoint),
-    };
+) -> Result<Command<'a>, LineError>
+    ensures { IfOk result IsOfBreakpoint }
+{
+    let number = breakpoint_number(line.digits);
+    if number.is_none() && !line.digits.is_empty() {
+        return Err(LineError::NoBreakpoint);
+    }
     if line.before.is_empty() {
         return match number {
             None if limits.is_empty() => Ok(Command::ListStops),
@@ -137,7 +151,9 @@ pub fn read_breakpoint<'a>(
 }
 
 /// Reads what stands behind `.BREAK` for a breakpoint: its address, and its limits.
-pub fn read_break_at<'a>(text: &[u8], scope: &Scope<'_>) -> Result<Command<'a>, LineError> {
+pub fn read_break_at<'a>(text: &[u8], scope: &Scope<'_>) -> Result<Command<'a>, LineError>
+    ensures { IfOk result IsBreakpoint }
+{
     match cut_before(text, b"IF", b"TIMES") {
         Some((place, limits)) => read_limits(read_address(place, scope)?, None, limits, scope),
         None => read_limits(read_address(text, scope)?, None, b"".as_slice(), scope),

@@ -73,8 +73,10 @@ pub struct Search {
     pub kind: SearchKind,
     /// The value that words are compared with.
     pub value: Word,
-    /// The bits that are compared.
-    pub mask: Word,
+    /// The bits that are compared; `None` for those of the mask that `$M/` shows.
+    pub mask: Option<Word>,
+    /// The first and the last address that are looked at; `None` for all of the job's core.
+    pub range: Option<(u32, u32)>,
 }
 
 /// A breakpoint to be set: `a$nB IF b=v TIMES n`.
@@ -113,6 +115,12 @@ pub enum Command<'a> {
     Evaluate(Word, Retype),
     /// `$S` and the like: sets the mode in which words are shown.
     SetMode(OutputMode),
+    /// `$A` or `$R`: shows addresses as numbers, where this is true, or with labels.
+    SetAddresses(bool),
+    /// `$M/`: opens the mask of searches, and shows it.
+    OpenMask,
+    /// `$M/ value`: shows the mask of searches, and puts the value there.
+    ChangeMask(Word),
     /// `=`, `_` or `;`: shows the last quantity once more.
     Retype(Retype),
     /// `a$B` or `a$nB`: sets a breakpoint.
@@ -121,17 +129,23 @@ pub enum Command<'a> {
     ClearBreakpoint(u8),
     /// `$B`: lists the breakpoints and what else stops a run.
     ListStops,
+    /// `$nB/`: shows breakpoint n, 1 to 8.
+    ShowBreakpoint(u8),
     /// `$G`: starts the jobs that were not started, or the open one again, and runs.
     Go,
     /// `a$G`: starts the open job at an address, and runs.
     GoAt(u32),
     /// `n$P`: lets the jobs go on up to the n-th breakpoint.
     Proceed(u32),
+    /// `$$P`: lets the jobs go on, and shows each breakpoint at which one arrives.
+    ProceedOn,
     /// `n$X`: executes n instructions of the open job.
     Execute(u32),
+    /// `instr$X`: executes this instruction for the open job.
+    ExecuteWord(Word),
     /// `$$X`: lets the open job go on until its call returns.
     ExecuteCall,
-    /// `value<mask>$W`, `$N` or `$E`: searches the core of the open job.
+    /// `value<mask>$W` or `a<b>value$W`; so with `$N` and `$E`: searches the core of the open job.
     Search(Search),
     /// `.JOB n`: opens job n, 1 to 63.
     Job(u8),

@@ -72,6 +72,20 @@ pub enum LineError {
     NoSixbit,
     /// There is no such mode of texts.
     NoTextMode,
+    /// Bytes of n bits are not shown.
+    NoBytes,
+    /// Symbols are neither made nor hidden.
+    NoSymbols,
+    /// `$:` is not here.
+    NoTables,
+    /// `$Y` is not here.
+    NoPunch,
+    /// `$Z` is not here.
+    NoFilling,
+    /// `a\` is not here.
+    NoBackslash,
+    /// The range of a search is turned round or has no end.
+    NoRange,
     /// Something stands behind a command of one word.
     BehindCommand,
 }
@@ -136,6 +150,14 @@ impl LineError {
             LineError::NoSixbit => "? a character of SIXBIT is one from blank to _",
             LineError::NoTextMode =>
                 "? $T shows a word as text in ASCII and SIXBIT, $6T and $7T in one of them",
+            LineError::NoBytes => "? bytes are not shown: $O shows words in octal, $nR in radix n",
+            LineError::NoSymbols =>
+                "? symbols are those of the source: none is made or hidden here",
+            LineError::NoTables => "? .JOB n opens job n, whose symbols are those of its source",
+            LineError::NoPunch => "? .DO file obeys the lines of a file, .SAVE file writes them",
+            LineError::NoFilling => "? words are put one by one, as in LOOP/ 0",
+            LineError::NoBackslash => "? a/ opens a place",
+            LineError::NoRange => "? a search from a to b is typed as in 140<177>5$W",
             _ => "? nothing may stand behind this command",
         }
     }
@@ -164,7 +186,10 @@ impl fmt::Display for LineError {
                     "? a breakpoint has a number from 1 to {BREAKPOINTS}, in decimal"
                 )
             }
-            LineError::NoTimes => write_times("before $P and $X", f),
+            LineError::NoTimes => write_times(
+                "before $P and $X, but for an instruction before $X,",
+                f,
+            ),
             LineError::NoVisits => write_times("behind TIMES", f),
             LineError::NoRadix => {
                 write!(f, "? a radix is {LEAST_RADIX} to {MOST_RADIX}, in decimal")

@@ -44,11 +44,20 @@ pub enum Refusal {
     Deposited,
     /// A job was started at an address, of which a script can say nothing.
     StartedAt,
+    /// An instruction was executed by hand, of which a script can say nothing.
+    Executed,
+    /// The open job waits, so no instruction is executed for it.
+    Waits,
+    /// The instruction that was typed calls the monitor.
+    CallsMonitor,
+    /// The instruction that was typed stops the processor, for this reason.
+    Stops(&'static str),
 }
 
 impl fmt::Display for Refusal {
     fn fmt<W: fmt::Write>(&self, f: &mut fmt::Formatter<W>) -> fmt::Result {
         let text = match *self {
+            Refusal::Stops(reason) => return write!(f, "? not executed: {reason}"),
             Refusal::FewSteps(steps) => return write!(f, "? only {steps} steps were made"),
             Refusal::NoBreakpointFree => {
                 return write!(f, "? all {BREAKPOINTS} breakpoints are set");
@@ -75,6 +84,13 @@ impl fmt::Display for Refusal {
             Refusal::Deposited => "? not recorded: words were deposited, which no script does",
             Refusal::StartedAt => {
                 "? not recorded: a job was started at a place, which no script does"
+            }
+            Refusal::Executed => {
+                "? not recorded: an instruction was executed by hand, which no script does"
+            }
+            Refusal::Waits => "? not executed: the job waits",
+            Refusal::CallsMonitor => {
+                "? not executed: the monitor is called by the program's own instructions alone"
             }
         };
         f.write_str(text)

@@ -7,7 +7,7 @@ use Rattle.std.proofs.lemmas.Bool.{false≢true, lt-ltb}
 use Rattle.machine.specs.Machine.{S, ticked}
 use Rattle.ddt_timeline.specs.declared.entries.Entry.{Entry}
 use Rattle.ddt_timeline.specs.declared.entries.Entry.TheVariants.{Rounds, Login, Start, Continue, Kill, Typed, Take, Ticks}
-use Rattle.ddt_timeline.specs.declared.entries.Entry.TheVariants.{Deposit, StartAt}
+use Rattle.ddt_timeline.specs.declared.entries.Entry.TheVariants.{Deposit, StartAt, Execute}
 use Rattle.ddt_timeline.specs.Histories.{one_step, things_of}
 use Rattle.ddt_timeline.specs.Timelines.{made, played, steps_in, steps_of, ticked_so_often}
 use Rattle.ddt_moves.specs.Replays.{HeldBefore, IsLastHeld, before_step, counted, from_step, is_at_step, newer}
@@ -38,6 +38,7 @@ no_steps (Take line) other = refl
 no_steps (Ticks n) other = refl
 no_steps (Deposit n a word) other = refl
 no_steps (StartAt n a) other = refl
+no_steps (Execute n word) other = refl
 
 -- an entry that is no step happens before the next step
 pub from-event : (e : Entry) (l : List Entry) → steps_of e ≡ 0 → from_step (things_of e ++ l) ≡ from_step l
@@ -51,6 +52,7 @@ from-event (Take line) l none = refl
 from-event (Ticks n) l none = ticks-from n l
 from-event (Deposit n a word) l none = refl
 from-event (StartAt n a) l none = refl
+from-event (Execute n word) l none = refl
 
 pub before-event : (e : Entry) (l : List Entry) (s : S) → steps_of e ≡ 0 → before_step (things_of e ++ l) s ≡ before_step l (made s e)
 before-event (Rounds n) l s none =
@@ -64,6 +66,7 @@ before-event (Take line) l s none = refl
 before-event (Ticks n) l s none = ticks-before n l s
 before-event (Deposit n a word) l s none = refl
 before-event (StartAt n a) l s none = refl
+before-event (Execute n word) l s none = refl
 
 -- the search, from the things that are to come on
 

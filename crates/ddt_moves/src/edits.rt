@@ -1,7 +1,7 @@
-//! Whether the debugger has changed words.
+//! Whether the debugger has changed words, or executed instructions.
 ghost use Rattle.std.specs.List.{list_any};
 ghost use Rattle.std.specs.Prelude.{◌≡◌};
-ghost use Rattle.ddt_moves.specs.Edits.{is_deposit};
+ghost use Rattle.ddt_moves.specs.Edits.{is_deposit, is_execution};
 ghost use Rattle.ddt_timeline.specs.Views.{whole_entries};
 
 use ddt_timeline::{Entry, Timeline};
@@ -30,4 +30,30 @@ pub fn is_edited(timeline: &Timeline) -> bool
     ensures { result ≡ list_any is_deposit (whole_entries timeline.now) }
 {
     has_deposit(timeline.entries())
+}
+
+/// Whether an entry is an instruction that was executed by hand.
+fn is_execution(entry: &Entry) -> bool
+    ensures { result ≡ is_execution entry.now }
+{
+    matches!(entry, Entry::Execute(_, _))
+}
+
+/// Whether one of some entries is an instruction that was executed by hand.
+fn has_execution(entries: &[Entry]) -> bool
+    ensures { result ≡ list_any is_execution entries.now }
+{
+    for entry in entries {
+        if is_execution(entry) {
+            return true;
+        }
+    }
+    false
+}
+
+/// Whether an instruction was executed by hand in all that has happened to the machine.
+pub fn is_executed(timeline: &Timeline) -> bool
+    ensures { result ≡ list_any is_execution (whole_entries timeline.now) }
+{
+    has_execution(timeline.entries())
 }

@@ -16,7 +16,7 @@ mod terminals;
 mod turns;
 mod visits;
 
-pub use edits::is_edited;
+pub use edits::{is_edited, is_executed};
 pub use ends::ended_at;
 pub use input::{InputLines, line_from};
 pub use past_steps::{Turns, last_at, last_turns, last_write};

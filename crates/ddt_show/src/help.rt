@@ -3,13 +3,14 @@
 use program_shell::PendingText;
 
 /// A line on each command, which stands in the first 16 characters.
-static COMMANDS: [&str; 47] = [
+static COMMANDS: [&str; 52] = [
     "a/               opens a place and shows its word",
     "(empty)          the next place; ^ the one before; TAB the one that the last word addresses",
     "value            puts the value in the place that is open",
     "a[ a] a!         the same, shown in octal, as an instruction, not at all; a/ value puts the value there",
     "$S $C $T $H $nR  shows words as instructions, in octal, as text, halves, in radix n, 2 to 16 (decimal)",
     "$D $6T $7T       .. in decimal, as SIXBIT, as ASCII; $O and $F are $C",
+    "$A $R            shows addresses as numbers, with labels",
     "= _ ;            the last quantity in octal, as an instruction, as text",
     "expr=            a value in octal; expr_ as an instruction, expr; as text",
     "values           octal, 12. and ^D12, labels, . and $Q, + - * and ' (divides), 1,,LABEL, @5(3), MOVE 1,LABEL",
@@ -18,14 +19,18 @@ static COMMANDS: [&str; 47] = [
     "a$B IF b=v       .. that stops only where the word at b is v; <> < > <= >= compare signed numbers",
     "a$B TIMES n      .. that stops from the n-th time on (octal); a$B IF b=v TIMES n: only those times count",
     "0$nB             takes breakpoint n away",
+    "$nB/             shows breakpoint n",
     "$B               the breakpoints, and what else runs stop at",
     "$G               starts the jobs that were not started, or the open one again, and runs",
     "a$G              starts the open job at a, and runs; CTRL-C stops it before",
     "n$P              goes on until the n-th breakpoint; n is octal: 20$P is sixteen, 20.$P twenty",
+    "$$P              goes on past each breakpoint, which is shown, up to 4096 of them",
     "n$X              shows n instructions of the open job; n is octal: 20$X is sixteen, 20.$X twenty",
+    "MOVEI 1,5$X      executes an instruction for the open job, which goes on where it was; a call runs till it returns",
     "$$X              up to the place behind the instruction, or the one behind that: a call returns there",
-    "v<mask>$W        words of the open job that are v under the mask; $N that are not",
-    "v$E              words of the open job with the effective address v",
+    "v<mask>$W        words of the open job that are v under the mask; $N that are not; v$E with the effective address v",
+    "a<b>v$W          .. from a to b, under the mask that $M/ shows; so with $N and $E",
+    "$M/              shows the mask of searches, and a value then goes there; $M/ value at once",
     ".JOB n           opens job n; numbers behind commands with a point are decimal",
     ".JOBS            how all jobs stand",
     ".LOCKS           the requests for locks, in order of arrival",

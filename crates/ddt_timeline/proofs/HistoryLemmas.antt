@@ -9,7 +9,7 @@ use Rattle.ddt_timeline.specs.Timelines.{answer_to, made, played, reached, steps
 use Rattle.ddt_timeline.specs.Histories.{ahead_in, at_end, done, history_of, is_before_step, is_place, is_place_in, one_step, past_in, the_history, things_in, things_of}
 use Rattle.ddt_timeline.specs.declared.entries.Entry.{Entry}
 use Rattle.ddt_timeline.specs.declared.entries.Entry.TheVariants.{Rounds, Login, Start, Continue, Kill, Typed, Take, Ticks}
-use Rattle.ddt_timeline.specs.declared.entries.Entry.TheVariants.{Deposit, StartAt}
+use Rattle.ddt_timeline.specs.declared.entries.Entry.TheVariants.{Deposit, StartAt, Execute}
 use Rattle.ddt_timeline.proofs.AtOnce.{rounds-behind}
 use Rattle.ddt_timeline.proofs.RunLemmas.{get-last, played-append}
 use Rattle.machine.specs.declared.event.Answer.{Answer}
@@ -38,6 +38,7 @@ played-things_of (Take line) s = refl
 played-things_of (Ticks n) s = played-ticks n s
 played-things_of (Deposit n a word) s = refl
 played-things_of (StartAt n a) s = refl
+played-things_of (Execute n word) s = refl
 
 pub played-things_in : (es : List Entry) (s : S) → played (things_in es) s ≡ played es s
 played-things_in [] s = refl
@@ -78,6 +79,7 @@ steps-things_of (Take line) = refl
 steps-things_of (Ticks n) = steps-ticks n
 steps-things_of (Deposit n a word) = refl
 steps-things_of (StartAt n a) = refl
+steps-things_of (Execute n word) = refl
 
 pub steps-things_in : (es : List Entry) → steps_in (things_in es) ≡ steps_in es
 steps-things_in [] = refl
@@ -137,6 +139,7 @@ at-place (Take line ∷ es) part h = absurd (omega (arith, less-of part 0 h))
 at-place (Ticks n ∷ es) part h = absurd (omega (arith, less-of part 0 h))
 at-place (Deposit n a word ∷ es) part h = absurd (omega (arith, less-of part 0 h))
 at-place (StartAt n a ∷ es) part h = absurd (omega (arith, less-of part 0 h))
+at-place (Execute n word ∷ es) part h = absurd (omega (arith, less-of part 0 h))
 
 -- the things before a place and those behind it are all things
 pub everything-at : (es : List Entry) (whole part : ℕ) → is_place (drop whole es) part ≡ true → past_in es whole part ++ ahead_in es whole part ≡ things_in es
@@ -211,6 +214,7 @@ ticks-things_of (Take line) = refl
 ticks-things_of (Ticks n) = ticks-ticks n
 ticks-things_of (Deposit n a word) = refl
 ticks-things_of (StartAt n a) = refl
+ticks-things_of (Execute n word) = refl
 
 ticks-things_in : (es : List Entry) → ticks_in (things_in es) ≡ ticks_in es
 ticks-things_in [] = refl

@@ -11,7 +11,7 @@ use Rattle.ddt_timeline.specs.Recorded.{changes, is_event, recorded}
 use Rattle.ddt_timeline.specs.Timelines.{made, played}
 use Rattle.ddt_timeline.specs.declared.entries.Entry.{Entry}
 use Rattle.ddt_timeline.specs.declared.entries.Entry.TheVariants.{Rounds, Login, Start, Continue, Kill, Typed, Take, Ticks}
-use Rattle.ddt_timeline.specs.declared.entries.Entry.TheVariants.{Deposit, StartAt}
+use Rattle.ddt_timeline.specs.declared.entries.Entry.TheVariants.{Deposit, StartAt, Execute}
 use Rattle.ddt_timeline.proofs.HistoryLemmas.{played-things_of}
 
 recorded-append : (xs ys : List Entry) (s : S) → recorded s (xs ++ ys) ≡ recorded s xs ++ recorded (played xs s) ys
@@ -39,6 +39,7 @@ recorded-things_of (Take line) s = append-nil (changes s (Take line))
 recorded-things_of (Ticks n) s = recorded-ticks n s
 recorded-things_of (Deposit n a word) s = append-nil (changes s (Deposit n a word))
 recorded-things_of (StartAt n a) s = append-nil (changes s (StartAt n a))
+recorded-things_of (Execute n word) s = append-nil (changes s (Execute n word))
 
 recorded-things_in : (es : List Entry) (s : S) → recorded s (things_in es) ≡ recorded s es
 recorded-things_in [] s = refl
@@ -89,6 +90,7 @@ things_of-are (Take line) = refl
 things_of-are (Ticks n) = ticks-are n
 things_of-are (Deposit n a word) = refl
 things_of-are (StartAt n a) = refl
+things_of-are (Execute n word) = refl
 
 things_in-are : (es : List Entry) → list_all is_event (things_in es) ≡ list_all is_event es
 things_in-are [] = refl

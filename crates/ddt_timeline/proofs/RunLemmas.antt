@@ -108,6 +108,26 @@ made_more es es' e r whole part m m' s all none items is there made_so =
     ∙ ap (λ (ys : List Entry). reached ys (whole + 1) 0 s) (sym items)
     ∙ ap (λ (n : ℕ). reached es' (whole + 1) n s) (sym none)
 
+-- and so where it was made without looking it up
+pub made_last : (es es' : List Entry) (e : Entry) (whole part : ℕ) (m m' s : S) → whole ≡ length es → part ≡ 0 → es' ≡ es ++ e ∷ []
+    → m ≡ reached es whole part s → m' ≡ made m e → m' ≡ reached es' (whole + 1) part s
+made_last es es' e whole part m m' s all none items there made_so =
+    made_so
+    ∙ ap (λ (x : S). made x e) (there ∙ ap (λ (n : ℕ). reached es whole n s) none)
+    ∙ sym (reached_more es e whole s all)
+    ∙ ap (λ (ys : List Entry). reached ys (whole + 1) 0 s) (sym items)
+    ∙ ap (λ (n : ℕ). reached es' (whole + 1) n s) (sym none)
+
+take_front : (xs : List Entry) (e : Entry) (n : ℕ) → n ≡ length xs → take n (xs ++ e ∷ []) ≡ xs
+take_front [] e zero h = refl
+take_front [] e (suc n) h = absurd (omega (arith, h))
+take_front (x ∷ xs) e zero h = absurd (omega (arith, h))
+take_front (x ∷ xs) e (suc n) h = let inner : n ≡ length xs = omega (arith, h) in ap (λ (l : List Entry). x ∷ l) (take_front xs e n inner)
+
+-- an entry that was added and let go again
+pub let_go_again : (es es' : List Entry) (e : Entry) (whole : ℕ) → whole ≡ length es → es' ≡ es ++ e ∷ [] → take whole es' ≡ es
+let_go_again es es' e whole all items = ap (λ (l : List Entry). take whole l) items ∙ take_front es e whole all
+
 -- a machine just made, some entries played, and steps more
 pub replayed : (es front : List Entry) (whole part : ℕ) (m m' m'' s : S) → m ≡ s → front ≡ take whole es → m' ≡ played front m
     → m'' ≡ after (rounds part true) m' → m'' ≡ reached es whole part s

@@ -3,7 +3,7 @@ use Rattle.std.specs.Prelude.{ℕ, ◌++◌, ◌==◌, nat_le, nat_lt, ◌||◌,
 use Rattle.machine.specs.Machine.{S}
 use Rattle.ddt_timeline.specs.declared.entries.Entry.{Entry}
 use Rattle.ddt_timeline.specs.declared.entries.Entry.TheVariants.{Rounds, Login, Start, Continue, Kill, Typed, Take, Ticks}
-use Rattle.ddt_timeline.specs.declared.entries.Entry.TheVariants.{Deposit, StartAt}
+use Rattle.ddt_timeline.specs.declared.entries.Entry.TheVariants.{Deposit, StartAt, Execute}
 use Rattle.ddt_timeline.specs.Timelines.{played, steps_of}
 
 -- a step with its tick
@@ -22,6 +22,7 @@ things_of (Take line) = Take line ∷ []
 things_of (Ticks n) = replicate n (Ticks 1)
 things_of (Deposit n a word) = Deposit n a word ∷ []
 things_of (StartAt n a) = StartAt n a ∷ []
+things_of (Execute n word) = Execute n word ∷ []
 
 -- the single things of some entries
 abbrev pub things_in : List Entry → List Entry

@@ -11,7 +11,7 @@ use Rattle.run_record.specs.declared.pieces.Piece.{Piece}
 use Rattle.ddt_timeline.specs.Timelines.{answer_to, made}
 use Rattle.ddt_timeline.specs.declared.entries.Entry.{Entry}
 use Rattle.ddt_timeline.specs.declared.entries.Entry.TheVariants.{Rounds, Login, Start, Continue, Kill, Typed, Take, Ticks}
-use Rattle.ddt_timeline.specs.declared.entries.Entry.TheVariants.{Deposit, StartAt}
+use Rattle.ddt_timeline.specs.declared.entries.Entry.TheVariants.{Deposit, StartAt, Execute}
 
 -- whether an entry is events of a run: a change that a debugger makes by hand is none
 abbrev pub is_event : Entry → Bool
@@ -25,6 +25,7 @@ is_event (Take line) = true
 is_event (Ticks n) = true
 is_event (Deposit n a word) = false
 is_event (StartAt n a) = false
+is_event (Execute n word) = false
 
 -- the events of an entry; the programs are numbered from 1 on, by their lines, which are numbered from 0 on
 abbrev pub events_of : Entry → List RunEvent
@@ -38,6 +39,7 @@ events_of (Take line) = event.Take line ∷ []
 events_of (Ticks n) = replicate n event.Tick
 events_of (Deposit n a word) = []
 events_of (StartAt n a) = []
+events_of (Execute n word) = []
 
 -- whether a text has characters
 abbrev pub has_some : List ℕ → Bool

@@ -2,14 +2,14 @@
 use Rattle.std.specs.Prelude.{ℕ, zero, suc, ◌+◌, true, List, [], ◌∷◌, take}
 use Rattle.word36.specs.declared.sizes.TheConstants.{TAKEN_AT_ONCE}
 use Rattle.job_sched.specs.Tables.{job_at}
-use Rattle.machine.specs.Deposits.{deposited, started_at}
+use Rattle.machine.specs.Deposits.{deposited, executed_by_hand, started_at}
 use Rattle.machine.specs.Machine.{S, after, logged_in, started, continued, killed, typed, taken, ticked}
 use Rattle.machine.specs.Rounds.{rounds}
 use Rattle.machine.specs.declared.event.Answer.{Answer}
 use Rattle.machine.specs.declared.event.Answer.TheVariants.{Done}
 use Rattle.ddt_timeline.specs.declared.entries.Entry.{Entry}
 use Rattle.ddt_timeline.specs.declared.entries.Entry.TheVariants.{Rounds, Login, Start, Continue, Kill, Typed, Take, Ticks}
-use Rattle.ddt_timeline.specs.declared.entries.Entry.TheVariants.{Deposit, StartAt}
+use Rattle.ddt_timeline.specs.declared.entries.Entry.TheVariants.{Deposit, StartAt, Execute}
 
 -- the state after so many ticks
 abbrev pub ticked_so_often : ℕ → S → S
@@ -28,6 +28,7 @@ made s (Take line) = (taken s line TAKEN_AT_ONCE).state
 made s (Ticks n) = ticked_so_often n s
 made s (Deposit n a word) = deposited s n a word
 made s (StartAt n a) = (started_at s n a).state
+made s (Execute n word) = executed_by_hand s n word
 
 -- the state after some entries
 abbrev pub played : List Entry → S → S
@@ -50,6 +51,7 @@ steps_of (Take line) = 0
 steps_of (Ticks n) = 0
 steps_of (Deposit n a word) = 0
 steps_of (StartAt n a) = 0
+steps_of (Execute n word) = 0
 
 -- how many steps some entries have
 abbrev pub steps_in : List Entry → ℕ
@@ -68,6 +70,7 @@ ticks_of (Take line) = 0
 ticks_of (Ticks n) = n
 ticks_of (Deposit n a word) = 0
 ticks_of (StartAt n a) = 0
+ticks_of (Execute n word) = 0
 
 -- how many ticks some entries have
 abbrev pub ticks_in : List Entry → ℕ
@@ -86,3 +89,4 @@ answer_to s (Take line) = (taken s line TAKEN_AT_ONCE).answer
 answer_to s (Ticks n) = Done
 answer_to s (Deposit n a word) = Done
 answer_to s (StartAt n a) = (started_at s n a).answer
+answer_to s (Execute n word) = Done

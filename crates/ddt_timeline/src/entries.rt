@@ -30,6 +30,9 @@ pub enum Entry {
     Deposit(u8, u32, Word),
     /// A job was started at an address.
     StartAt(u8, Address),
+    /// An instruction was executed for a job by hand, as if it stood before the one at the job's PC. Nothing changes where the
+    /// job is not there, or the processor does not complete it.
+    Execute(u8, Word),
 }
 
 /// Lets so many ticks go by.
@@ -43,7 +46,7 @@ fn tick(machine: &mut Machine, count: u32)
     }
 }
 
-/// Makes an entry happen, and gives the answer of the machine: `Done` to steps, ticks and a deposit.
+/// Makes an entry happen, and gives the answer of the machine: `Done` to steps, ticks, a deposit and an instruction.
 pub fn perform(machine: &mut Machine, entry: &Entry) -> Answer
     ensures state { machine.new ≡ made machine.old entry.now }
     ensures answer { result ≡ answer_to machine.old entry.now }
@@ -62,6 +65,10 @@ pub fn perform(machine: &mut Machine, entry: &Entry) -> Answer
             return Answer::Done;
         }
         Entry::StartAt(number, address) => return machine.start_at(*number, *address),
+        Entry::Execute(number, word) => {
+            machine.execute(*number, *word);
+            return Answer::Done;
+        }
         Entry::Login(line, image) => Event::Login(*line, image),
         Entry::Start(number) => Event::Start(*number),
         Entry::Continue(number) => Event::Continue(*number),

@@ -18,7 +18,10 @@ use std::alloc::AllocError;
 fn is_event(entry: &Entry) -> bool
     ensures { result ≡ is_event entry.now }
 {
-    !matches!(entry, Entry::Deposit(_, _, _) | Entry::StartAt(_, _))
+    !matches!(
+        entry,
+        Entry::Deposit(_, _, _) | Entry::StartAt(_, _) | Entry::Execute(_, _)
+    )
 }
 
 /// Whether all of some entries are events of a run.
@@ -61,7 +64,7 @@ fn add_entry(events: &mut EventSequence, entry: &Entry) -> Result<(), AllocError
     let event = match entry {
         Entry::Rounds(count) => return events.add_rounds(*count),
         Entry::Ticks(count) => return add_ticks(events, *count),
-        Entry::Deposit(_, _, _) | Entry::StartAt(_, _) => return Ok(()),
+        Entry::Deposit(_, _, _) | Entry::StartAt(_, _) | Entry::Execute(_, _) => return Ok(()),
         Entry::Login(line, _) => RunEvent::Login(*line, line.saturating_add(1)),
         Entry::Start(number) => RunEvent::Start(*number),
         Entry::Continue(number) => RunEvent::Continue(*number),

@@ -1,7 +1,8 @@
 //! A machine with all that has happened to it, so that it can be put back to any of its steps.
-ghost use Rattle.std.specs.Prelude.{◌≡◌, ◌+◌, ◌-◌, ◌≤◌, ◌<◌, [], None, OnErr, OnOk};
+ghost use Rattle.std.specs.Prelude.{◌≡◌, ◌+◌, ◌-◌, ◌≤◌, ◌<◌, [], ◌∷◌, None, OnErr, OnOk};
 ghost use Rattle.std.specs.Prelude.{IfOk, IfSome, drop, false, take, length, min, replicate, true};
 ghost use Rattle.word36.specs.declared.sizes.TheConstants.{MOST_REQUESTS};
+ghost use Rattle.machine.specs.Deposits.{is_done_by_hand};
 ghost use Rattle.machine.specs.Machine.{at_boot};
 ghost use Rattle.ddt_timeline.specs.Histories.{is_place, is_place_in};
 ghost use Rattle.ddt_timeline.specs.Timelines.{reached, steps_in, steps_of, ticks_of};
@@ -9,10 +10,11 @@ ghost use Rattle.ddt_timeline.specs.Timelines.{reached, steps_in, steps_of, tick
 use crate::entries::{Entry, perform, play};
 use crate::stops::{Run, Watch, WatchedStop, run_until};
 use concrete_machine::Machine;
-use monitor::{Answer, Config};
+use ka_state::Outcome;
+use monitor::{Answer, Config, is_complete};
 use std::alloc::{AllocError, Global};
 use std::mem;
-use word36::Address;
+use word36::{Address, Word};
 
 /// A machine with all that has happened to it.
 ///
@@ -80,16 +82,28 @@ fn beginning(entries: &Vec<Entry>, count: usize) -> &[Entry]
     &entries.as_slice()[..count]
 }
 
+/// Whether an instruction was completed.
+fn is_done(end: &Option<Outcome>) -> bool
+    ensures { result ≡ is_done_by_hand end.now }
+{
+    match end {
+        Some(end) => is_complete(end),
+        None => false,
+    }
+}
+
 /// Gives back the memory of a machine.
 pub fn let_go(machine: Machine) {}
 
 impl Timeline {
+    ghost use Rattle.machine.specs.Deposits.{end_by_hand};
     ghost use Rattle.ddt_timeline.specs.Histories.{at_end, cut, done, everything};
     ghost use Rattle.ddt_timeline.specs.Histories.{history_of, is_before_step, machine_of, one_step, things_of};
     ghost use Rattle.ddt_timeline.specs.Asking.{IsAsked};
     ghost use Rattle.ddt_timeline.specs.Runs.{IsRun};
     ghost use Rattle.ddt_timeline.specs.Stops.{stops_of};
     ghost use Rattle.ddt_timeline.specs.Timelines.{answer_to, ticks_in};
+    ghost use Rattle.ddt_timeline.specs.declared.entries.Entry.TheVariants.{Execute};
     ghost use Rattle.ddt_timeline.specs.Views.{history, steps_behind, whole_entries};
 
     /// A machine to which nothing has happened.
@@ -215,6 +229,26 @@ impl Timeline {
         let answer = perform(&mut self.machine, &self.entries[self.whole]);
         self.whole += 1;
         Ok(answer)
+    }
+
+    /// Executes an instruction for a job by hand, and forgets what happened before the machine was put back. Tells how the
+    /// processor ends it; `None` where the job is not there. Where it is not complete nothing happens.
+    pub fn execute(&mut self, number: u8, word: Word) -> Result<Option<Outcome>, AllocError>
+        ensures end { IfOk result (λ end. end ≡ end_by_hand (machine_of (history self.old)) number word) }
+        ensures happened { IfOk result (λ end. is_done_by_hand end ≡ true
+            → history self.new ≡ done (history self.old) (Execute number word ∷ [])) }
+        ensures nothing { IfOk result (λ end. is_done_by_hand end ≡ false → history self.new ≡ cut (history self.old)) }
+        ensures fails { OnErr result (history self.new ≡ cut (history self.old)) }
+    {
+        self.cut(u32::MAX)?;
+        self.entries.push(Entry::Execute(number, word))?;
+        let end = self.machine.execute(number, word);
+        if is_done(&end) {
+            self.whole += 1;
+        } else {
+            self.entries.truncate(self.whole);
+        }
+        Ok(end)
     }
 
     /// Makes steps until a stop holds, the watch ends the run, no job can go on, or `most` are made, and forgets what happened

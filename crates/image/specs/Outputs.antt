@@ -3,8 +3,8 @@ use Rattle.std.specs.Prelude.{◌≡◌, true, false, IfSome}
 use Rattle.program_shell.specs.declared.outputs.NameEnd.{NameEnd}
 use Rattle.program_shell.specs.declared.outputs.NameEnd.TheVariants as ends
 use Rattle.program_shell.specs.Outputs.{inputs_of, is_file_of, is_right_end}
-use Rattle.image.specs.declared.arguments.ImageCommand.{ImageCommand}
-use Rattle.image.specs.declared.arguments.ImageCommand.TheVariants as commands
+use Rattle.image_service.specs.declared.commands.ImageCommand.{ImageCommand}
+use Rattle.image_service.specs.declared.commands.ImageCommand.TheVariants as commands
 use Rattle.image.specs.declared.arguments.Options.{Options}
 
 -- how the name of a command's output ends: as that of a source only where the output is one

@@ -4,22 +4,10 @@ ghost use Rattle.image.specs.Outputs.{HasOutput, output_end};
 
 use clap::{Arg, ArgMatches, Command};
 use image_files::{Packing, packing_named};
+use image_service::ImageCommand;
 use mac_source::Shown;
 use program_shell::{NameEnd, Refusal, Wrong, make_flag, make_top, matches_of, output_in, refused};
 use std::alloc::{AllocError, Global};
-
-/// A command of the program.
-#[derive(Clone, Copy)]
-pub enum ImageCommand {
-    /// `words`: words in another packing.
-    Words { from: Packing, to: Packing },
-    /// `source`: the source of a core image.
-    Source { from: Packing, shown: Shown },
-    /// `save`: the core image of a source.
-    Save { to: Packing },
-    /// `list`: the words of a core image.
-    List { from: Packing },
-}
 
 /// What the arguments ask for.
 #[derive(Clone, Copy)]

@@ -3,14 +3,14 @@
 #![tactic(auto)]
 
 ghost use Rattle.std.specs.Prelude.{◌≡◌, false};
+ghost use Rattle.image.specs.Statuses.{status_for};
 
 mod arguments;
-mod kept_output;
 mod reasons;
 mod serving;
 
-use arguments::{ImageCommand, read_arguments};
-use image_service::Ending;
+use arguments::read_arguments;
+use image_service::{Ending, ImageCommand};
 use program_shell::{
     DONE, FAILED, FailureLines, REFUSED, arguments_or_status, refuse_arguments, report_failure,
     report_to,
@@ -36,6 +36,7 @@ fn status_of<E: ByteOut>(
     errors: &mut E,
 ) -> u8
     requires { E.has_failed errors.old ≡ false }
+    ensures { result ≡ status_for ended }
 {
     match ended {
         Ok(carried) if carried.ending == Ending::Done => DONE,

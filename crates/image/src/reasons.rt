@@ -1,9 +1,8 @@
 //! What is wrong with an input, in words.
 
-use crate::arguments::ImageCommand;
 use crate::serving::Carried;
 use image_files::{ImageFault, PackErrorKind, Packing, SaveErrorKind, fault_text, read_words};
-use image_service::Ending;
+use image_service::{Ending, ImageCommand};
 use std::alloc::{AllocError, Global};
 
 /// The left half of the first word of an .EXE file of TOPS-10, which is its directory.

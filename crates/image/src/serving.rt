@@ -1,11 +1,9 @@
 //! Commands that are carried out, on a file or standard input, to a file or standard output.
-ghost use Rattle.std.specs.Prelude.{◌≡◌, false};
 
-use crate::arguments::{ImageCommand, Options};
-use crate::kept_output::KeptOutput;
-use image_service::{Ending, serve_list, serve_save, serve_source, serve_words};
+use crate::arguments::Options;
+use image_service::{Ending, answer_to};
 use program_shell::{Failure, file_error_text, read_whole, write_whole};
-use script_io::{ByteOut, HostIn, HostOut, ServeFailure, write_all};
+use script_io::{HostIn, HostOut, write_all};
 use std::alloc::{AllocError, Global};
 use std::{fs, io};
 
@@ -41,31 +39,6 @@ pub struct Carried {
     pub input: Vec<u8>,
 }
 
-/// Carries a command out on the bytes of its input, and keeps what comes of it.
-fn serve(
-    alloc: Global,
-    command: ImageCommand,
-    input: &[u8],
-    kept: &mut KeptOutput,
-) -> Result<Ending, Stop>
-    requires { ⟦<KeptOutput as ByteOut>⟧.has_failed kept.old ≡ false }
-{
-    let mut port = HostIn::new(input);
-    let reader = &mut port;
-    let served = match command {
-        ImageCommand::Words { from, to } => serve_words(alloc, from, to, reader, kept),
-        ImageCommand::Source { from, shown } => serve_source(alloc, from, shown, reader, kept),
-        ImageCommand::Save { to } => serve_save(alloc, to, reader, kept),
-        ImageCommand::List { from } => serve_list(alloc, from, reader, kept),
-    };
-    match served {
-        Ok(ending) => Ok(ending),
-        Err(ServeFailure::Read) => Err(Stop::Failed(Failure::Read)),
-        // an output that is kept fails for want of memory alone
-        Err(ServeFailure::Write | ServeFailure::Memory) => Err(Stop::Failed(Failure::Memory)),
-    }
-}
-
 /// The bytes of the file that is named, or of standard input.
 fn input_of(rt: &HostRuntime, options: &Options<'_>) -> Result<Vec<u8>, Stop> {
     let Some(file) = options.input else {
@@ -98,12 +71,12 @@ fn write_kept(rt: &HostRuntime, output: Option<&str>, kept: &[u8]) -> Result<(),
 /// to standard output, so that the file of `--output` stays as it is.
 pub fn carry_out(rt: &HostRuntime, options: &Options<'_>) -> Result<Carried, Stop> {
     let input = input_of(rt, options)?;
-    let mut kept = KeptOutput::new(rt.alloc());
-    let ending = serve(rt.alloc(), options.command, input.as_slice(), &mut kept)?;
+    let answer = answer_to(rt.alloc(), options.command, input.as_slice())?;
+    let ending = answer.ending;
     let output = match ending {
         Ending::Done => options.output,
         _ => None,
     };
-    write_kept(rt, output, kept.as_slice())?;
+    write_kept(rt, output, answer.text.as_slice())?;
     Ok(Carried { ending, input })
 }

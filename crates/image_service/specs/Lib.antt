@@ -1,3 +1,4 @@
 pub mod Names
 pub mod NotHere
 pub mod Transcripts
+pub mod Commands

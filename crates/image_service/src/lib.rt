@@ -1,6 +1,7 @@
-//! What the program `image` writes for the bytes that it reads, over any ports.
+//! What the program `image` writes for the bytes that it reads.
 #![tactic(auto)]
 
+mod commands;
 mod endings;
 mod faults;
 mod laws;
@@ -11,11 +12,8 @@ mod repacking;
 mod saving;
 mod sourcing;
 
+pub use commands::{Answer, ImageCommand, answer_to};
 pub use endings::Ending;
 pub use laws::{
     repacked_there_and_back, saved_sources_give_files_back, words_not_here_are_refused,
 };
-pub use listing::serve_list;
-pub use repacking::serve_words;
-pub use saving::serve_save;
-pub use sourcing::serve_source;

@@ -14,4 +14,4 @@ mod statements;
 mod steps;
 mod terms;
 
-pub use passes::assemble;
+pub use passes::{assemble, assemble_up_to};

@@ -6,13 +6,20 @@ use macro_faults::{Failure, Fault, Report};
 use macro_names::{Name, NameReader, is_blank, is_digit, is_name_character, text_of};
 use macro_operations::{of_dialect, of_subset};
 use macro_state::Assembly;
+use macro_stream::Limit;
 use search_files::has_macro;
 use std::alloc::{AllocError, Global};
 
 /// Assembles a source in two passes. `faults` of the assembly has what is wrong with the source; it is empty where the
 /// image is that of the source.
 pub fn assemble(alloc: Global, source: &[u8]) -> Result<Assembly, AllocError> {
+    assemble_up_to(alloc, source, Limit::Errors.most() as usize)
+}
+
+/// Assembles a source as `assemble` does, and ends where there are more faults than so many.
+pub fn assemble_up_to(alloc: Global, source: &[u8], most: usize) -> Result<Assembly, AllocError> {
     let mut state = Assembly::new(alloc, source)?;
+    state.most_faults = most;
     match run_passes(&mut state, &mut Work::new(alloc)) {
         Ok(()) => Ok(state),
         Err(error) => {

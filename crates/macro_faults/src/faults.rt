@@ -33,8 +33,14 @@ pub enum Fault {
     ExpectedNumberEnd(u8),
     /// The bit behind B is 0 to 35.
     BitNumber(i64),
-    /// Floating point.
-    Float,
+    /// `^F` or `^L`.
+    Scaled,
+    /// A number with an exponent and no fraction.
+    FloatForm,
+    /// A constant of floating point that is too large.
+    FloatTooLarge,
+    /// A constant of floating point that is too small, and not 0.
+    FloatTooSmall,
     /// A product that no word holds.
     Product,
     /// A quotient by zero.
@@ -131,7 +137,8 @@ impl Fault {
                 b'Q',
             Fault::NoQuote(_) | Fault::LongQuote(_) | Fault::EmptyQuote => b'Q',
             Fault::NoWord(_) | Fault::Digits(_, _) | Fault::LongDigits(_) => b'N',
-            Fault::ExpectedNumberEnd(_) | Fault::BitNumber(_) | Fault::Float => b'N',
+            Fault::ExpectedNumberEnd(_) | Fault::BitNumber(_) | Fault::Scaled => b'N',
+            Fault::FloatForm | Fault::FloatTooLarge | Fault::FloatTooSmall => b'N',
             Fault::Product | Fault::Quotient => b'N',
             Fault::NotDefined(_) | Fault::NotSearched(_) | Fault::LeftOut(_, _, false) => b'U',
             Fault::Refused(_) | Fault::LeftOut(_, _, true) => b'O',

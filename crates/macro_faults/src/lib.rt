@@ -7,5 +7,5 @@ mod spellings;
 mod words;
 
 pub use faults::Fault;
-pub use reports::{Failure, Report};
+pub use reports::{Failure, Report, Spot};
 pub use words::{push_around_place, push_report, push_words};

@@ -13,6 +13,15 @@ pub struct Report {
     pub fault: Fault,
 }
 
+/// Where the line of a fault is told to be.
+#[derive(Clone, Copy)]
+pub struct Spot<'a> {
+    /// The file, where the source has several.
+    pub file: Option<&'a str>,
+    /// The number of the line.
+    pub line: u32,
+}
+
 /// Why a statement is not carried out.
 #[derive(Clone, Copy)]
 pub enum Failure {

@@ -1,7 +1,7 @@
 //! Words for a fault.
 
 use crate::faults::Fault;
-use crate::reports::Report;
+use crate::reports::{Report, Spot};
 use crate::spellings::push_name;
 use macro_names::Name;
 use macro_stream::{Around, Place};
@@ -94,7 +94,16 @@ fn plain_words(fault: Fault) -> Option<&'static str> {
     match fault {
         Fault::NotAscii => Some("a byte that is not ASCII"),
         Fault::ExpectedAtEnd => Some("expected more before the end of the line"),
-        Fault::Float => Some("floating-point constants are not here"),
+        Fault::Scaled => Some("^F and ^L are not here: write the word in octal"),
+        Fault::FloatForm => {
+            Some("a constant of floating point has a point between digits, as 1.0E5 has")
+        }
+        Fault::FloatTooLarge => Some(
+            "a constant of floating point is too large: it is less than 2^127",
+        ),
+        Fault::FloatTooSmall => {
+            Some("a constant of floating point is too small: it is 0, or 2^-129 or more")
+        }
         Fault::Product => Some("a product does not fit a word"),
         Fault::Quotient => Some("a quotient by zero"),
         Fault::EmptyQuote => Some("one character at least is wanted between the quotes"),
@@ -317,16 +326,22 @@ pub fn push_around_place(
 }
 
 /// Adds the lines of a fault of a source: `?MACRO line:column letter words`, and the texts around it, each with its line;
-/// `outer` are the texts around places that the stream kept.
+/// `outer` are the texts around places that the stream kept. If the line is one of a file of several, it is `file:line:column`, with
+/// the name of the file and the number of the line in it.
 pub fn push_report(
     out: &mut Vec<u8>,
     report: &Report,
+    spot: Spot<'_>,
     outer: &[Around],
     source: &[u8],
 ) -> Result<(), AllocError> {
     let report = *report;
     push(out, "?MACRO ")?;
-    push_decimal(out, report.place.line)?;
+    if let Some(file) = spot.file {
+        push(out, file)?;
+        out.push(b':')?;
+    }
+    push_decimal(out, spot.line)?;
     out.push(b':')?;
     push_decimal(out, report.place.column)?;
     out.push(b' ')?;

@@ -3,20 +3,25 @@
 ghost use Rattle.std.specs.Prelude.{IfOk};
 ghost use Rattle.macro_main.specs.Outputs.{HasOutputs};
 
-use clap::{Arg, ArgMatches, Command};
-use program_shell::{NameEnd, Refusal, Wrong, make_top, matches_of, output_in, refused};
+use clap::{Arg, ArgAction, ArgMatches, Command};
+use joined_files::{NamesFault, push_names};
+use program_shell::{NameEnd, Refusal, Wrong, make_flag, make_top, matches_of, output_in, refused};
 use std::alloc::{AllocError, Global};
 use std::convert::AsStr;
 
 /// What the arguments ask for.
-#[derive(Clone, Copy)]
+#[derive(Drop)]
 pub struct Options<'a> {
     /// The file that gets the listing, if one is wanted.
     pub list: Option<&'a str>,
     /// The file that gets the cross-reference, if one is wanted.
     pub cross: Option<&'a str>,
-    /// The file of the source, where it is not standard input.
-    pub file: Option<&'a str>,
+    /// Whether what is not here is counted, and nothing is assembled.
+    pub survey: bool,
+    /// The arguments that name files, each with one name or several.
+    pub arguments: Vec<&'a str>,
+    /// The files that they name, which make the source, where it is not standard input.
+    pub files: Vec<&'a str>,
 }
 
 /// How the name of a listing ends.
@@ -38,7 +43,14 @@ const LIST: &str =
 
 const CROSS: &str = "write to this file where each name is defined and used";
 
-const FILE: &str = "the source, and not standard input";
+const SURVEY: &str =
+    "count what the sources have and this assembler has not, and write what to write instead";
+
+const FILE: &str =
+    "the source, and not standard input: several files, as in pre.mac prog.mac or pre.mac+prog.mac, are read as one";
+
+/// What is wrong with outputs of a survey.
+const SURVEY_ALONE: &str = "--survey writes no listing and no cross-reference";
 
 /// An option that names a file, which is shown so.
 fn make_file<'a>(alloc: Global, name: &'a str, shown: &'a str, help: &'a str) -> Arg<'a> {
@@ -53,18 +65,53 @@ fn make_command<'a>(alloc: Global) -> Result<Command<'a>, AllocError> {
     let top = make_top(alloc, "macro", ABOUT, END).bin_name("macro")?;
     let with_list = top.arg(make_file(alloc, "list", "FILE.lst", LIST))?;
     let with_cross = with_list.arg(make_file(alloc, "cross", "FILE.crf", CROSS))?;
-    with_cross.arg(Arg::new(alloc, "FILE").help(FILE))
+    let with_survey = with_cross.arg(make_flag(alloc, "survey", SURVEY))?;
+    with_survey.arg(
+        Arg::new(alloc, "FILE")
+            .help(FILE)
+            .num_args(1..)
+            .action(ArgAction::Append),
+    )
+}
+
+/// What is wrong with the names of an argument.
+fn wrong_of<'a>(fault: NamesFault) -> Wrong<'a> {
+    match fault {
+        NamesFault::Memory => Wrong::Memory,
+        NamesFault::NoName => Wrong::Other(fault.words()),
+    }
+}
+
+/// The files that arguments name.
+fn files_of<'a>(alloc: Global, arguments: &[&'a str]) -> Result<Vec<&'a str>, Wrong<'a>> {
+    let mut files = Vec::new(alloc);
+    for argument in arguments {
+        if let Err(fault) = push_names(&mut files, argument) {
+            return Err(wrong_of(fault));
+        }
+    }
+    Ok(files)
 }
 
 /// What is asked for by what `clap` took.
-fn options_in<'a>(matches: &ArgMatches<'a>) -> Result<Options<'a>, Wrong<'a>>
+fn options_in<'a>(alloc: Global, matches: &ArgMatches<'a>) -> Result<Options<'a>, Wrong<'a>>
     ensures { IfOk result HasOutputs }
 {
-    let file = matches.get_str("FILE");
+    let mut arguments = Vec::new(alloc);
+    arguments.extend_from_slice(matches.get_strs("FILE").unwrap_or(&[]))?;
+    let files = files_of(alloc, arguments.as_slice())?;
+    let list = output_in(matches, "list", LIST_END, files.as_slice())?;
+    let cross = output_in(matches, "cross", CROSS_END, files.as_slice())?;
+    let survey = matches.get_flag("survey");
+    if survey && (list.is_some() || cross.is_some()) {
+        return Err(Wrong::Other(SURVEY_ALONE));
+    }
     Ok(Options {
-        list: output_in(matches, "list", LIST_END, file.as_slice())?,
-        cross: output_in(matches, "cross", CROSS_END, file.as_slice())?,
-        file,
+        list,
+        cross,
+        survey,
+        arguments,
+        files,
     })
 }
 
@@ -77,13 +124,13 @@ fn read_by<'a, S: AsStr>(
     ensures { IfOk result HasOutputs }
 {
     let matches = matches_of(command, arguments)?;
-    match options_in(&matches) {
+    match options_in(alloc, &matches) {
         Ok(options) => Ok(options),
         Err(wrong) => Err(refused(alloc, command, wrong)),
     }
 }
 
-/// What the arguments, which begin with the program's name, ask for. No file that it names for an output is that of the source,
+/// What the arguments, which begin with the program's name, ask for. No file that it names for an output is one of the source's,
 /// nor are two of them one.
 pub fn read_arguments<'a, S: AsStr>(
     alloc: Global,

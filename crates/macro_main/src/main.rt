@@ -4,6 +4,7 @@
 
 mod arguments;
 mod serving;
+mod survey;
 
 use program_shell::arguments_or_status;
 use script_io::{HostIn, HostOut};

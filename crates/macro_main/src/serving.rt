@@ -1,5 +1,5 @@
 //! The whole program over any ports.
-ghost use Rattle.std.specs.Prelude.{◌≡◌, ◌⊎◌, ℕ, false, List, IfErr, IfOk, IsErr};
+ghost use Rattle.std.specs.Prelude.{◌≡◌, ◌⊎◌, ℕ, false, List, IfErr, IfOk, IsErr, IsTrue};
 ghost use Rattle.std.specs.Io.KnownBytes.{Appends};
 ghost use Rattle.mac_asm.specs.Outcome.{outcome_of};
 ghost use Rattle.macro_output.specs.Plain.{IsPlain};
@@ -7,6 +7,8 @@ ghost use Rattle.program_shell.specs.declared.statuses.TheConstants.{DONE, FAILE
 ghost use Rattle.macro_main.specs.Answers.{Answers, HasWords, IsRefusal, HasAnswer, text_bytes};
 
 use crate::arguments::{Options, read_arguments};
+use crate::survey::survey;
+use joined_files::{Joined, end_line, unread_text};
 use macro_assembly::assemble;
 use macro_output::{
     Plain, Written, plain_source, push_cross, push_faults, push_listing, source_of,
@@ -17,6 +19,7 @@ use program_shell::{
     refuse_arguments, report_failure, report_to, write_whole,
 };
 use script_io::{ByteIn, ByteOut, write_all};
+use shown_bytes::shown_text;
 use std::alloc::{AllocError, Global};
 use std::convert::AsStr;
 use std::io;
@@ -77,13 +80,13 @@ impl Text {
 }
 
 /// The source of the words of an assembly, or what is wrong with it.
-fn assembled_text(alloc: Global, state: &Assembly, source: &[u8]) -> Result<Text, AllocError> {
+fn assembled_text(alloc: Global, state: &Assembly, source: &Joined) -> Result<Text, AllocError> {
     if !state.faults.is_empty() {
         let mut text = Vec::new(alloc);
-        push_faults(&mut text, state, source)?;
+        push_faults(&mut text, state, source.text.as_slice(), source.several())?;
         return Ok(Text::Errors(text));
     }
-    match source_of(state, source)? {
+    match source_of(state, source.text.as_slice())? {
         Some(written) => Ok(Text::Words(written)),
         None => Ok(Text::NotReadBack),
     }
@@ -98,14 +101,19 @@ fn is_text_of(state: &Assembly, source: &[u8], text: &[u8]) -> Result<bool, Allo
 }
 
 /// What goes to standard output for a source that is assembled. `plain` is what the subset assembler made of the same source.
-fn text_of(alloc: Global, state: &Assembly, source: &[u8], plain: Plain) -> Result<Text, AllocError>
-    ensures { IfOk result (λ text. IsPlain source.now plain → Answers source.now text) }
+fn text_of(
+    alloc: Global,
+    state: &Assembly,
+    source: &Joined,
+    plain: Plain,
+) -> Result<Text, AllocError>
+    ensures { IfOk result (λ text. IsPlain source.now.text.items plain → Answers source.now.text.items text) }
 {
     match plain {
         Plain::NotInSubset => assembled_text(alloc, state, source),
         Plain::Written(_) if !state.faults.is_empty() => Ok(Text::NotListed),
         Plain::Written(written) => {
-            if is_text_of(state, source, written.text.as_slice())? {
+            if is_text_of(state, source.text.as_slice(), written.text.as_slice())? {
                 Ok(Text::Words(written))
             } else {
                 Ok(Text::NotReadBack)
@@ -116,16 +124,16 @@ fn text_of(alloc: Global, state: &Assembly, source: &[u8], plain: Plain) -> Resu
 }
 
 /// The listing of a source.
-fn listing_of(alloc: Global, state: &Assembly, source: &[u8]) -> Result<Vec<u8>, AllocError> {
+fn listing_of(alloc: Global, state: &Assembly, source: &Joined) -> Result<Vec<u8>, AllocError> {
     let mut text = Vec::new(alloc);
-    push_listing(&mut text, state, source)?;
+    push_listing(&mut text, state, source.text.as_slice(), source.several())?;
     Ok(text)
 }
 
 /// The cross-reference of an assembly.
-fn cross_of(alloc: Global, state: &Assembly) -> Result<Vec<u8>, AllocError> {
+fn cross_of(alloc: Global, state: &Assembly, source: &Joined) -> Result<Vec<u8>, AllocError> {
     let mut text = Vec::new(alloc);
-    push_cross(&mut text, state)?;
+    push_cross(&mut text, state, source.several())?;
     Ok(text)
 }
 
@@ -134,11 +142,11 @@ fn output_of(
     alloc: Global,
     options: &Options<'_>,
     state: &Assembly,
-    source: &[u8],
+    source: &Joined,
     plain: Plain,
 ) -> Result<Output, AllocError>
-    requires { IsPlain source.now plain }
-    ensures { IfOk result (λ output. Answers source.now output.text) }
+    requires { IsPlain source.now.text.items plain }
+    ensures { IfOk result (λ output. Answers source.now.text.items output.text) }
 {
     let text = text_of(alloc, state, source, plain)?;
     let is_refused = !state.faults.is_empty();
@@ -148,7 +156,7 @@ fn output_of(
         None
     };
     let cross = if options.cross.is_some() && !is_refused {
-        Some(cross_of(alloc, state)?)
+        Some(cross_of(alloc, state, source)?)
     } else {
         None
     };
@@ -170,21 +178,74 @@ fn report_file<E: ByteOut>(alloc: Global, file: &str, error: io::Error, errors: 
     }
 }
 
-/// The source of the file, if one is named, or of the reader; or the exit status where it cannot be read, which is
+/// Adds a file to a source, as lines for a person show its name; or gives the exit status where there is no memory, which is
+/// reported.
+fn add_file<E: ByteOut>(
+    alloc: Global,
+    source: &mut Joined,
+    file: &str,
+    text: &[u8],
+    errors: &mut E,
+) -> Result<(), u8>
+    requires { E.has_failed errors.old ≡ false }
+    ensures sound { IfOk result (λ _. E.has_failed errors.new ≡ false) }
+{
+    let added = match shown_text(alloc, file.as_bytes()) {
+        Ok(name) => source.add(alloc, name.as_str(), text),
+        Err(error) => Err(error),
+    };
+    match added {
+        Ok(()) => Ok(()),
+        Err(_) => Err(report_failure(errors, &FAILURE_LINES, Failure::Memory)),
+    }
+}
+
+/// Adds files to a source; or gives the exit status where one cannot be read, which is reported.
+pub fn add_files<F: Files + AllocGlobal, E: ByteOut>(
+    rt: &F,
+    files: &[&str],
+    source: &mut Joined,
+    errors: &mut E,
+) -> Result<(), u8>
+    requires { E.has_failed errors.old ≡ false }
+    ensures sound { IfOk result (λ _. E.has_failed errors.new ≡ false) }
+{
+    for file in files {
+        let text = read_file(rt, "macro: ", file, &FAILURE_LINES, errors)?;
+        add_file(rt.alloc(), source, file, text.as_slice(), errors)?;
+    }
+    Ok(())
+}
+
+/// The source of the files, if any are named, or of the reader; or the exit status where it cannot be read, which is
 /// reported.
 fn read_source<F: Files + AllocGlobal, R: ByteIn, E: ByteOut>(
     rt: &F,
-    file: Option<&str>,
+    files: &[&str],
     reader: &mut R,
     errors: &mut E,
-) -> Result<Vec<u8>, u8>
+) -> Result<Joined, u8>
     requires reader_sound { R.has_failed reader.old ≡ false }
     requires errors_sound { E.has_failed errors.old ≡ false }
     ensures { IfOk result (λ _. E.has_failed errors.new ≡ false) }
 {
-    match file {
-        Some(file) => read_file(rt, "macro: ", file, &FAILURE_LINES, errors),
-        None => read_input(rt.alloc(), reader, usize::MAX, &FAILURE_LINES, errors),
+    let mut source = Joined::new(rt.alloc());
+    if files.is_empty() {
+        source.text = read_input(rt.alloc(), reader, usize::MAX, &FAILURE_LINES, errors)?;
+    } else {
+        add_files(rt, files, &mut source, errors)?;
+    }
+    Ok(source)
+}
+
+/// Reports which files of a source are not read, whose END is on this line, if it has one.
+fn report_unread<E: ByteOut>(alloc: Global, source: &Joined, end: usize, errors: &mut E) -> bool
+    requires { E.has_failed errors.old ≡ false }
+    ensures { IsTrue result → E.has_failed errors.new ≡ false }
+{
+    match unread_text(alloc, source.several(), end) {
+        Ok(text) => write_all(errors, text.as_str().as_bytes()).is_ok(),
+        Err(_) => false,
     }
 }
 
@@ -210,7 +271,7 @@ fn write_file<F: Files + AllocGlobal, E: ByteOut>(
 }
 
 /// Writes a text to the output. Gives `DONE`, or `FAILED` where the output failed, which is reported.
-fn write_text<W: ByteOut, E: ByteOut>(writer: &mut W, text: &[u8], errors: &mut E) -> u8
+pub fn write_text<W: ByteOut, E: ByteOut>(writer: &mut W, text: &[u8], errors: &mut E) -> u8
     requires writer_sound { W.has_failed writer.old ≡ false }
     requires errors_sound { E.has_failed errors.old ≡ false }
     ensures status { (result ≡ DONE) ⊎ (result ≡ FAILED) }
@@ -261,21 +322,24 @@ fn answer_with<F: Files + AllocGlobal, W: ByteOut, E: ByteOut>(
     rt: &F,
     options: &Options<'_>,
     state: &Assembly,
-    source: &[u8],
+    source: &Joined,
     plain: Plain,
     writer: &mut W,
     errors: &mut E,
 ) -> u8
-    requires plain { IsPlain source.now plain }
+    requires plain { IsPlain source.now.text.items plain }
     requires writer_sound { W.has_failed writer.old ≡ false }
     requires errors_sound { E.has_failed errors.old ≡ false }
-    ensures written { result ≡ DONE → HasAnswer source.now (W.written writer.old) (W.written writer.new) }
-    ensures refused { result ≡ REFUSED → IsErr (outcome_of source.now) }
+    ensures written { result ≡ DONE → HasAnswer source.now.text.items (W.written writer.old) (W.written writer.new) }
+    ensures refused { result ≡ REFUSED → IsErr (outcome_of source.now.text.items) }
 {
     let Ok(output) = output_of(rt.alloc(), options, state, source, plain) else {
         return report_failure(errors, &FAILURE_LINES, Failure::Memory);
     };
     if write_all(errors, state.typed.as_slice()).is_err() {
+        return FAILED;
+    }
+    if !report_unread(rt.alloc(), source, state.listing.last as usize, errors) {
         return FAILED;
     }
     write_all_of(rt, options, &output, writer, errors)
@@ -289,18 +353,18 @@ fn let_go(_state: Assembly) {}
 fn answer_assembled<F: Files + AllocGlobal, W: ByteOut, E: ByteOut>(
     rt: &F,
     options: &Options<'_>,
-    source: &[u8],
+    source: &Joined,
     plain: Plain,
     writer: &mut W,
     errors: &mut E,
 ) -> u8
-    requires plain { IsPlain source.now plain }
+    requires plain { IsPlain source.now.text.items plain }
     requires writer_sound { W.has_failed writer.old ≡ false }
     requires errors_sound { E.has_failed errors.old ≡ false }
-    ensures written { result ≡ DONE → HasAnswer source.now (W.written writer.old) (W.written writer.new) }
-    ensures refused { result ≡ REFUSED → IsErr (outcome_of source.now) }
+    ensures written { result ≡ DONE → HasAnswer source.now.text.items (W.written writer.old) (W.written writer.new) }
+    ensures refused { result ≡ REFUSED → IsErr (outcome_of source.now.text.items) }
 {
-    let Ok(state) = assemble(rt.alloc(), source) else {
+    let Ok(state) = assemble(rt.alloc(), source.text.as_slice()) else {
         return report_failure(errors, &FAILURE_LINES, Failure::Memory);
     };
     let status = answer_with(rt, options, &state, source, plain, writer, errors);
@@ -313,17 +377,20 @@ fn answer_assembled<F: Files + AllocGlobal, W: ByteOut, E: ByteOut>(
 fn answer<F: Files + AllocGlobal, W: ByteOut, E: ByteOut>(
     rt: &F,
     options: &Options<'_>,
-    source: &[u8],
+    source: &Joined,
     writer: &mut W,
     errors: &mut E,
 ) -> u8
     requires writer_sound { W.has_failed writer.old ≡ false }
     requires errors_sound { E.has_failed errors.old ≡ false }
-    ensures written { result ≡ DONE → HasAnswer source.now (W.written writer.old) (W.written writer.new) }
-    ensures refused { result ≡ REFUSED → IsErr (outcome_of source.now) }
+    ensures written { result ≡ DONE → HasAnswer source.now.text.items (W.written writer.old) (W.written writer.new) }
+    ensures refused { result ≡ REFUSED → IsErr (outcome_of source.now.text.items) }
 {
-    match plain_source(rt.alloc(), source) {
+    match plain_source(rt.alloc(), source.text.as_slice()) {
         Ok(Plain::Written(written)) if options.list.is_none() && options.cross.is_none() => {
+            if !report_unread(rt.alloc(), source, end_line(source.text.as_slice()), errors) {
+                return FAILED;
+            }
             write_text(writer, written.text.as_slice(), errors)
         }
         Ok(plain) => answer_assembled(rt, options, source, plain, writer, errors),
@@ -331,9 +398,10 @@ fn answer<F: Files + AllocGlobal, W: ByteOut, E: ByteOut>(
     }
 }
 
-/// Reads the source of the file that the arguments name, or of the reader, and assembles it. The source of its words, or
+/// Reads the source of the files that the arguments name, or of the reader, and assembles it. The source of its words, or
 /// what is wrong with it, goes to `writer`; the listing and the cross-reference go to the files that the arguments name for
-/// them; the lines of PRINTX go to `errors`. The arguments begin with the program's name. Where they ask for the help or
+/// them; the lines of PRINTX go to `errors`, and which files are not read. If a survey is asked for, that of the files goes to
+/// `writer`, and nothing else is done. The arguments begin with the program's name. Where they ask for the help or
 /// the version, it writes that, and reads nothing. It gives the exit status: 0 where all was written; 1 where the source is
 /// refused, and 2 where the arguments are, which is reported to `errors`; 3 where a file, the reader, an output or memory
 /// failed.
@@ -353,8 +421,11 @@ pub fn program<F: Files + AllocGlobal, S: AsStr, R: ByteIn, W: ByteOut, E: ByteO
         Ok(options) => options,
         Err(refusal) => return refuse_arguments(alloc, refusal, &FAILURE_LINES, writer, errors),
     };
-    match read_source(rt, options.file, reader, errors) {
-        Ok(source) => answer(rt, &options, source.as_slice(), writer, errors),
+    if options.survey {
+        return survey(rt, options.arguments.as_slice(), reader, writer, errors);
+    }
+    match read_source(rt, options.files.as_slice(), reader, errors) {
+        Ok(source) => answer(rt, &options, &source, writer, errors),
         Err(status) => status,
     }
 }

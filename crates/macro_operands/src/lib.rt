@@ -3,6 +3,7 @@
 #![tactic(auto)]
 
 mod elements;
+mod floats;
 mod instructions;
 mod numbers;
 mod operators;

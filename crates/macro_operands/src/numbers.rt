@@ -1,5 +1,6 @@
 //! Numbers, quoted characters, and bits behind values.
 
+use crate::floats::float_value;
 use crate::operators::as_word;
 use macro_faults::Fault;
 use macro_names::{is_digit, is_name_character, sixbit_of};
@@ -58,14 +59,6 @@ fn digits_value(state: &mut Assembly, radix: u8, place: Place) -> Value {
     }
 }
 
-/// Whether the character that is next begins an exponent or a fraction.
-fn is_floating(next: Option<u8>) -> bool {
-    match next {
-        Some(other) => is_digit(other) || other == b'E' || other == b'e',
-        None => false,
-    }
-}
-
 /// A term of one part: a number, or characters in quotes, which begins with this character.
 pub fn plain_value(state: &mut Assembly, next: Option<u8>, place: Place) -> Value {
     match next {
@@ -92,11 +85,13 @@ fn plain_number(state: &mut Assembly, place: Place) -> Value {
         Some(b'.') => {
             state.advance(b'.');
             radix = 10;
-            if is_floating(state.peek()) {
-                state.fail(place, Fault::Float);
+            match state.peek() {
+                Some(digit) if is_digit(digit) => return float_value(state, place),
+                Some(b'E' | b'e') => state.fail(place, Fault::FloatForm),
+                Some(_) | None => (),
             }
         }
-        Some(b'E' | b'e') => state.fail(place, Fault::Float),
+        Some(b'E' | b'e') => state.fail(place, Fault::FloatForm),
         Some(_) | None => (),
     }
     digits_value(state, radix, place)
@@ -131,7 +126,7 @@ pub fn marked_radix(state: &mut Assembly, place: Place) -> u8 {
     state.advance(b'^');
     let letter = state.peek().unwrap_or(b' ');
     match letter {
-        b'F' | b'f' | b'L' | b'l' => state.fail(place, Fault::Float),
+        b'F' | b'f' | b'L' | b'l' => state.fail(place, Fault::Scaled),
         _ => match radix_of(letter) {
             Some(radix) => {
                 state.advance(letter);

@@ -1,5 +1,5 @@
 -- The listing of a source as text. A text is the list of its ASCII codes.
-use Rattle.std.specs.Prelude.{◌≡◌, ℕ, ◌+◌, ◌-◌, Bool, ◌&&◌, ◌||◌, not, List, [], ◌∷◌, ◌++◌, Some, None, length, take, drop}
+use Rattle.std.specs.Prelude.{◌≡◌, ℕ, ◌+◌, ◌-◌, Bool, ◌&&◌, ◌||◌, not, List, [], ◌∷◌, ◌++◌, Some, None, length, take, drop, codes, string_bytes}
 use Rattle.std.specs.Prelude.{is_some, nat_eq, nat_le, nat_lt, if◌then◌else◌, filter, map, slice_index}
 use Rattle.std.specs.List.Sorted.{IsPermutation, IsSortedBy}
 use Rattle.script_io.specs.Numbers.{parts}
@@ -10,6 +10,7 @@ use Rattle.macro_state.specs.declared.listing.Row.{Row}
 use Rattle.macro_state.specs.declared.listing.Expanded.{Expanded}
 use Rattle.macro_state.specs.declared.listing.Listing.{Listing}
 use Rattle.macro_output.specs.declared.listings.Remark.{Remark}
+use Rattle.joined_files.specs.declared.joined.Part.{Part}
 
 -- whether one of these ranges of lines has the line
 abbrev pub is_hidden : List (ℕ × ℕ) → ℕ → Bool
@@ -33,7 +34,7 @@ is_listed line rows text =
     line.is_shown && (have_place rows || (line.is_all && not (nat_eq (length text) 0)))
 
 abbrev pub expanded_text : Expanded → List Row → List ℕ → List ℕ
-expanded_text line rows text = if is_listed line rows text then rows_text None rows line.depth text else []
+expanded_text line rows text = if is_listed line rows text then rows_text None 32 rows line.depth text else []
 
 -- the expanded lines as texts, each with the line of the source that it follows; its rows are those in front that are of its
 -- number or of an earlier one
@@ -61,19 +62,33 @@ texts_behind line (text ∷ texts) = if nat_le text.0 line then texts_behind lin
 abbrev pub all_texts : List (ℕ × List ℕ) → List ℕ
 all_texts texts = flat_map (λ (text : ℕ × List ℕ). text.1) texts
 
--- a line of the source with its rows, and its expanded lines, unless it is hidden
-abbrev pub source_line : Bool → ℕ → List ℕ → List Row → List ℕ → List ℕ
-source_line is_hidden number text rows expanded = if is_hidden then [] else (rows_text (Some number) rows 0 text ++ expanded)
+-- the mark behind the number of a line: F, if it is one of those that have constants of floating point
+abbrev pub mark_of : List ℕ → ℕ → ℕ
+mark_of floats number = if list_any (λ line. nat_eq line number) floats then 70 else 32
+
+-- a line for a file that begins with this line of the source
+abbrev pub file_text : ℕ → Part → List ℕ
+file_text number part = if nat_eq part.before (number - 1) then codes ";file " ++ (string_bytes part.file ++ codes "\n") else []
+
+abbrev pub files_text : List Part → ℕ → List ℕ
+files_text files number = flat_map (file_text number) files
+
+-- a line of the source with its rows, and its expanded lines, unless it is hidden; before it the line of each file that begins with
+-- it
+abbrev pub source_line : List ℕ → Bool → ℕ → ℕ → List ℕ → List Row → List ℕ → List ℕ
+source_line files is_hidden number mark text rows expanded =
+    files ++ (if is_hidden then [] else (rows_text (Some number) mark rows 0 text ++ expanded))
 
 -- the lines of a source from one with this number on, up to the last: each with its rows, what it expands to, and what is wrong
 -- with it; what is left of that stands at the end
-abbrev pub lines_text : Listing → ℕ → List (List ℕ) → List Row → List (ℕ × List ℕ) → List (ℕ × List ℕ) → List ℕ
-lines_text listing number [] rows expanded remarks = all_texts remarks
-lines_text listing number (text ∷ lines) rows expanded remarks =
-    source_line (is_hidden listing.hidden.items number) number text (take (rows_to number rows) rows) (texts_to number expanded)
+abbrev pub lines_text : Listing → List Part → ℕ → List (List ℕ) → List Row → List (ℕ × List ℕ) → List (ℕ × List ℕ) → List ℕ
+lines_text listing files number [] rows expanded remarks = all_texts remarks
+lines_text listing files number (text ∷ lines) rows expanded remarks =
+    source_line (files_text files number) (is_hidden listing.hidden.items number) number (mark_of listing.floats.items number) text
+    (take (rows_to number rows) rows) (texts_to number expanded)
     ++ (texts_to number remarks
     ++ (if nat_eq number listing.last then all_texts (texts_behind number remarks)
-    else lines_text listing (number + 1) lines (drop (rows_to number rows) rows) (texts_behind number expanded) (texts_behind number remarks)))
+    else lines_text listing files (number + 1) lines (drop (rows_to number rows) rows) (texts_behind number expanded) (texts_behind number remarks)))
 
 -- what is wrong, as a text, with its line
 abbrev pub remark_text : Remark → ℕ × List ℕ
@@ -90,10 +105,14 @@ expanded_rows rows = filter (λ (row : Row). row.expanded) rows
 abbrev pub without_last_end : List ℕ → List ℕ
 without_last_end source = if nat_eq (slice_index source (length source - 1)) 10 then take (length source - 1) source else source
 
--- the listing of a source, with what is said of each fault and the line that it stands below
-abbrev pub listing_text : Listing → List ℕ → List (ℕ × List ℕ) → List ℕ
-listing_text listing source remarks =
-    lines_text listing 1 (take 4294967294 (parts 10 (without_last_end source))) (source_rows listing.rows.items)
+-- the lines of a text
+abbrev pub lines_of : List ℕ → List (List ℕ)
+lines_of text = parts 10 text
+
+-- the listing of a source, with its files, what is said of each fault and the line that it stands below
+abbrev pub listing_text : Listing → List Part → List ℕ → List (ℕ × List ℕ) → List ℕ
+listing_text listing files source remarks =
+    lines_text listing files 1 (take 4294967294 (lines_of (without_last_end source))) (source_rows listing.rows.items)
     (expanded_from listing 0 (expanded_rows listing.rows.items)) remarks
 
 -- whether a fault stands before another: on an earlier line, or on the same at an earlier column

@@ -35,9 +35,9 @@ abbrev pub row_columns : Option Row → List ℕ
 row_columns (Some row) = row_text row.place row.word
 row_columns None = row_text None None
 
--- the columns before the text of a line
-abbrev pub columns : Option ℕ → Option Row → List ℕ
-columns number row = number_column number ++ codes " " ++ row_columns row ++ codes "  "
+-- the columns before the text of a line, with a mark behind its number
+abbrev pub columns : Option ℕ → ℕ → Option Row → List ℕ
+columns number mark row = number_column number ++ (mark ∷ []) ++ row_columns row ++ codes "  "
 
 -- a blank, a tab or a carriage return
 abbrev pub is_end_blank : ℕ → Bool
@@ -54,14 +54,14 @@ without_end [] = []
 without_end (c ∷ line) = before_rest c (without_end line)
 
 -- a line of the listing: its columns, a `+` for each text that it is in, and its text
-abbrev pub line_text : Option ℕ → Option Row → ℕ → List ℕ → List ℕ
-line_text number row depth text = without_end (columns number row ++ replicate depth 43 ++ text) ++ codes "\n"
+abbrev pub line_text : Option ℕ → ℕ → Option Row → ℕ → List ℕ → List ℕ
+line_text number mark row depth text = without_end (columns number mark row ++ replicate depth 43 ++ text) ++ codes "\n"
 
 -- a row alone on a line
 abbrev pub own_line : Row → List ℕ
-own_line row = line_text None (Some row) 0 []
+own_line row = line_text None 32 (Some row) 0 []
 
--- a line with its rows: the first with its number and text, those behind it each alone
-abbrev pub rows_text : Option ℕ → List Row → ℕ → List ℕ → List ℕ
-rows_text number [] depth text = line_text number None depth text
-rows_text number (row ∷ rows) depth text = line_text number (Some row) depth text ++ flat_map own_line rows
+-- a line with its rows: the first with its number, the mark behind that, and its text, those behind it each alone
+abbrev pub rows_text : Option ℕ → ℕ → List Row → ℕ → List ℕ → List ℕ
+rows_text number mark [] depth text = line_text number mark None depth text
+rows_text number mark (row ∷ rows) depth text = line_text number mark (Some row) depth text ++ flat_map own_line rows

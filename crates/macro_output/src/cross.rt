@@ -1,5 +1,6 @@
 //! The cross-reference.
 
+use joined_files::Part;
 use macro_names::{Name, text_of};
 use macro_operations::of_uuosym;
 use macro_state::Assembly;
@@ -89,8 +90,22 @@ fn push_head(out: &mut Vec<u8>, state: &Assembly, name: u64) -> Result<bool, All
     Ok(is_listed)
 }
 
-/// Adds the cross-reference: a line a name, with what it stands for and the lines of its uses; `#` where it is defined.
-pub fn push_cross(out: &mut Vec<u8>, state: &Assembly) -> Result<(), AllocError> {
+/// Adds a line for each file, with the number of its first line in the whole.
+fn push_files(out: &mut Vec<u8>, parts: &[Part]) -> Result<(), AllocError> {
+    for part in parts {
+        out.extend_from_slice(b";file ")?;
+        out.extend_from_slice(part.file.as_str().as_bytes())?;
+        out.push(b' ')?;
+        push_decimal(out, part.before.saturating_add(1))?;
+        out.push(b'\n')?;
+    }
+    Ok(())
+}
+
+/// Adds the cross-reference: a line a name, with what it stands for and the lines of its uses; `#` where it is defined. `parts` are
+/// the files of the source, where there are several: before all names each has a line.
+pub fn push_cross(out: &mut Vec<u8>, state: &Assembly, parts: &[Part]) -> Result<(), AllocError> {
+    push_files(out, parts)?;
     let entries = sorted_uses(state)?;
     let mut before: Option<Entry> = None;
     let mut is_listed = false;

@@ -1,12 +1,15 @@
 //! The listing.
-ghost use Rattle.std.specs.Prelude.{◌≡◌, ◌++◌, ℕ, List, [], take, drop, map, OnOk, IfOk, if◌then◌else◌};
-ghost use Rattle.script_io.specs.Numbers.{parts};
+ghost use Rattle.std.specs.Prelude.{◌≡◌, ◌++◌, ℕ, nat_eq, List, [], Some, take, drop, map, OnOk, IfOk, if◌then◌else◌};
+ghost use Rattle.std.specs.List.{list_any};
 ghost use Rattle.macro_output.specs.Listings.{is_hidden, rows_to, part_of, have_place, is_listed, expanded_text, expanded_from};
 ghost use Rattle.macro_output.specs.Listings.{texts_to, texts_behind, all_texts, lines_text, remark_text, source_rows};
 ghost use Rattle.macro_output.specs.Listings.{expanded_rows, without_last_end, listing_text, AreRemarks};
+ghost use Rattle.macro_output.specs.Listings.{mark_of, file_text, files_text, lines_of};
+ghost use Rattle.macro_output.specs.Rows.{rows_text};
 
-use crate::reports::sorted_faults;
+use crate::reports::{sorted_faults, spot_of};
 use crate::rows::push_rows;
+use joined_files::Part;
 use macro_faults::push_report;
 use macro_state::{Assembly, Expanded, Listing, Row};
 use script_io::Parts;
@@ -77,7 +80,7 @@ fn push_expanded_line(
     if !is_listed(line, rows, text) {
         return Ok(());
     }
-    push_rows(out, None, rows, line.depth, text)
+    push_rows(out, None, b' ', rows, line.depth, text)
 }
 
 /// Adds the expanded lines of a line of the source, or passes over them where that is hidden.
@@ -136,17 +139,78 @@ fn push_left(out: &mut Vec<u8>, remarks: &[Remark]) -> Result<(), AllocError>
     Ok(())
 }
 
+/// Whether a line has a constant of floating point.
+fn is_float(floats: &[u32], line: u32) -> bool
+    ensures { result ≡ list_any (λ other. nat_eq other line) floats.now }
+{
+    floats.iter().any(|other| *other == line)
+}
+
+/// The mark after the number of a line: F if it has a constant of floating point.
+fn mark_of(floats: &[u32], line: u32) -> u8
+    ensures { result ≡ mark_of floats.now line }
+{
+    if is_float(floats, line) { b'F' } else { b' ' }
+}
+
+/// Adds a line for a file, if it begins with this line of the source.
+#[tactic(auto, using(std::proofs::Common::append_assoc))]
+fn push_file(out: &mut Vec<u8>, part: &Part, number: u32) -> Result<(), AllocError>
+    ensures { OnOk result (out.new.items ≡ out.old.items ++ file_text number part.now) }
+{
+    if part.before != number.saturating_sub(1) as usize {
+        return Ok(());
+    }
+    out.extend_from_slice(b";file ")?;
+    out.extend_from_slice(part.file.as_str().as_bytes())?;
+    out.push(b'\n')?;
+    Ok(())
+}
+
+/// Adds a line for each file that begins with this line of the source.
+fn push_files(out: &mut Vec<u8>, parts: &[Part], number: u32) -> Result<(), AllocError>
+    ensures { OnOk result (out.new.items ≡ out.old.items ++ files_text parts.now number) }
+{
+    for part in parts {
+        push_file(out, part, number)?;
+    }
+    Ok(())
+}
+
+/// Adds the line of each file that begins with this line of the source, and this line with its rows, unless it is hidden.
+#[tactic(auto, using(std::proofs::Common::append_assoc))]
+fn push_own_line(
+    out: &mut Vec<u8>,
+    listing: &Listing,
+    parts: &[Part],
+    number: u32,
+    is_hidden: bool,
+    rows: &[Row],
+    text: &[u8],
+) -> Result<(), AllocError>
+    ensures { OnOk result (out.new.items ≡ out.old.items ++ (files_text parts.now number
+        ++ (if is_hidden then [] else rows_text (Some number) (mark_of listing.now.floats.items number) rows.now 0 text.now))) }
+{
+    push_files(out, parts, number)?;
+    if !is_hidden {
+        let mark = mark_of(listing.floats.as_slice(), number);
+        push_rows(out, Some(number), mark, rows, 0, text)?;
+    }
+    Ok(())
+}
+
 /// Adds the lines of the source up to END, and all where it is not there, each with its rows, what it expands to, and what
-/// is wrong with it.
+/// is wrong with it, and the line of each file before its first.
 fn push_lines(
     out: &mut Vec<u8>,
     listing: &Listing,
+    parts: &[Part],
     mut rows: &[Row],
     expanded_rows: &[Row],
     mut remarks: &[Remark],
     source: &[u8],
 ) -> Result<(), AllocError>
-    ensures { OnOk result (out.new.items ≡ out.old.items ++ lines_text listing.now 1 (take 4294967294 (parts 10 source.now)) rows.now
+    ensures { OnOk result (out.new.items ≡ out.old.items ++ lines_text listing.now parts.now 1 (take 4294967294 (lines_of source.now)) rows.now
         (expanded_from listing.now 0 expanded_rows.now) (map remark_text remarks.now)) }
 {
     let mut lines = Parts::of(source, b'\n');
@@ -160,9 +224,7 @@ fn push_lines(
         };
         let is_hidden = is_hidden(listing.hidden.as_slice(), number);
         let (own, later) = part_rows(rows, number as usize);
-        if !is_hidden {
-            push_rows(out, Some(number), own, 0, text)?;
-        }
+        push_own_line(out, listing, parts, number, is_hidden, own, text)?;
         rows = later;
         push_expanded(out, listing, &mut unlisted, number, is_hidden)?;
         remarks = push_remarks(out, remarks, number)?;
@@ -191,14 +253,15 @@ fn parted_rows(listing: &Listing, alloc: Global) -> Result<(Vec<Row>, Vec<Row>),
 }
 
 /// What is wrong, in the order of its places.
-fn remarks_of(state: &Assembly, source: &[u8]) -> Result<Vec<Remark>, AllocError>
+fn remarks_of(state: &Assembly, source: &[u8], parts: &[Part]) -> Result<Vec<Remark>, AllocError>
     ensures { IfOk result (λ remarks. AreRemarks state.now.faults.items (map remark_text remarks.items)) }
 {
     let faults = sorted_faults(state.alloc, state.faults.as_slice())?;
     let mut remarks = Vec::new(state.alloc);
     for report in &faults {
         let mut text = Vec::new(state.alloc);
-        push_report(&mut text, report, state.stream.around(), source)?;
+        let spot = spot_of(parts, report.place.line);
+        push_report(&mut text, report, spot, state.stream.around(), source)?;
         remarks.push(Remark {
             line: report.place.line,
             text,
@@ -217,16 +280,23 @@ fn without_last_end(source: &[u8]) -> &[u8]
     }
 }
 
-/// Adds the listing of a source. What is wrong with a line stands below it.
-pub fn push_listing(out: &mut Vec<u8>, state: &Assembly, source: &[u8]) -> Result<(), AllocError>
+/// Adds the listing of a source. What is wrong with a line stands below it. `parts` are the files of the source, where there are
+/// several: each has a line before its first.
+pub fn push_listing(
+    out: &mut Vec<u8>,
+    state: &Assembly,
+    source: &[u8],
+    parts: &[Part],
+) -> Result<(), AllocError>
     ensures { OnOk result ((remarks : List (ℕ × List ℕ)) × AreRemarks state.now.faults.items remarks
-        × (out.new.items ≡ out.old.items ++ listing_text state.now.listing source.now remarks)) }
+        × (out.new.items ≡ out.old.items ++ listing_text state.now.listing parts.now source.now remarks)) }
 {
     let (rows, expanded_rows) = parted_rows(&state.listing, state.alloc)?;
-    let remarks = remarks_of(state, source)?;
+    let remarks = remarks_of(state, source, parts)?;
     push_lines(
         out,
         &state.listing,
+        parts,
         rows.as_slice(),
         expanded_rows.as_slice(),
         remarks.as_slice(),

@@ -2,7 +2,8 @@
 ghost use Rattle.std.specs.Prelude.{IfOk};
 ghost use Rattle.macro_output.specs.Listings.{InOrder};
 
-use macro_faults::{Report, push_report};
+use joined_files::{Part, part_of};
+use macro_faults::{Report, Spot, push_report};
 use macro_state::Assembly;
 use script_io::push_decimal;
 use std::alloc::{AllocError, Global};
@@ -40,8 +41,25 @@ pub fn sorted_faults(alloc: Global, faults: &[Report]) -> Result<Vec<Report>, Al
     Ok(sorted)
 }
 
-/// Adds the faults of a source by line and column, at most twenty of them, and how many more there are.
-pub fn push_faults(out: &mut Vec<u8>, state: &Assembly, source: &[u8]) -> Result<(), AllocError> {
+/// Where a line of a source of several files is told to be, or of one where there are no parts.
+pub fn spot_of(parts: &[Part], line: u32) -> Spot<'_> {
+    match part_of(parts, line as usize) {
+        Some(part) => Spot {
+            file: Some(part.file.as_str()),
+            line: line.saturating_sub(u32::try_from(part.before).unwrap_or(u32::MAX)),
+        },
+        None => Spot { file: None, line },
+    }
+}
+
+/// Adds the faults of a source by line and column, at most twenty of them, and how many more there are. `parts` are the files of
+/// the source, where there are several.
+pub fn push_faults(
+    out: &mut Vec<u8>,
+    state: &Assembly,
+    source: &[u8],
+    parts: &[Part],
+) -> Result<(), AllocError> {
     let sorted = sorted_faults(state.alloc, state.faults.as_slice())?;
     let mut written = 0usize;
     for report in &sorted {
@@ -51,7 +69,8 @@ pub fn push_faults(out: &mut Vec<u8>, state: &Assembly, source: &[u8]) -> Result
             out.extend_from_slice(b" more errors\n")?;
             return Ok(());
         }
-        push_report(out, report, state.stream.around(), source)?;
+        let spot = spot_of(parts, report.place.line);
+        push_report(out, report, spot, state.stream.around(), source)?;
         written += 1;
     }
     Ok(())

@@ -38,16 +38,21 @@ fn push_number(out: &mut Vec<u8>, number: u32) -> Result<(), AllocError>
     push_decimal(out, number)
 }
 
-/// Adds the columns before the text of a line.
+/// Adds the columns before the text of a line, with a mark behind its number.
 #[tactic(auto, using(std::proofs::Common::append_assoc))]
-fn push_columns(out: &mut Vec<u8>, number: Option<u32>, row: Option<Row>) -> Result<(), AllocError>
-    ensures { OnOk result (out.new.items ≡ out.old.items ++ columns number row) }
+fn push_columns(
+    out: &mut Vec<u8>,
+    number: Option<u32>,
+    mark: u8,
+    row: Option<Row>,
+) -> Result<(), AllocError>
+    ensures { OnOk result (out.new.items ≡ out.old.items ++ columns number mark row) }
 {
     match number {
         Some(number) => push_number(out, number)?,
         None => out.extend_from_slice(b"     ")?,
     }
-    out.push(b' ')?;
+    out.push(mark)?;
     match row {
         Some(row) => push_row(out, row.place, row.word)?,
         None => push_row(out, None, None)?,
@@ -120,14 +125,15 @@ fn push_depth(out: &mut Vec<u8>, depth: u32) -> Result<(), AllocError>
 fn push_line(
     out: &mut Vec<u8>,
     number: Option<u32>,
+    mark: u8,
     row: Option<Row>,
     depth: u32,
     text: &[u8],
 ) -> Result<(), AllocError>
-    ensures { OnOk result (out.new.items ≡ out.old.items ++ line_text number row depth text.now) }
+    ensures { OnOk result (out.new.items ≡ out.old.items ++ line_text number mark row depth text.now) }
 {
     let start = out.len();
-    push_columns(out, number, row)?;
+    push_columns(out, number, mark, row)?;
     push_depth(out, depth)?;
     out.extend_from_slice(text)?;
     end_line(out, start)
@@ -138,26 +144,27 @@ fn push_other_rows(out: &mut Vec<u8>, rows: &[Row]) -> Result<(), AllocError>
     ensures { OnOk result (out.new.items ≡ out.old.items ++ flat_map own_line rows.now) }
 {
     for row in rows {
-        push_line(out, None, Some(*row), 0, b"")?;
+        push_line(out, None, b' ', Some(*row), 0, b"")?;
     }
     Ok(())
 }
 
-/// Adds a line: the first row with its number and text, and the rows behind it, each alone.
+/// Adds a line: the first row with its number, the mark behind that, and its text, and the rows behind it, each alone.
 #[tactic(auto, using(std::proofs::Common::append_assoc))]
 pub fn push_rows(
     out: &mut Vec<u8>,
     number: Option<u32>,
+    mark: u8,
     rows: &[Row],
     depth: u32,
     text: &[u8],
 ) -> Result<(), AllocError>
-    ensures { OnOk result (out.new.items ≡ out.old.items ++ rows_text number rows.now depth text.now) }
+    ensures { OnOk result (out.new.items ≡ out.old.items ++ rows_text number mark rows.now depth text.now) }
 {
     match rows {
-        [] => push_line(out, number, None, depth, text),
+        [] => push_line(out, number, mark, None, depth, text),
         [first, others @ ..] => {
-            push_line(out, number, Some(*first), depth, text)?;
+            push_line(out, number, mark, Some(*first), depth, text)?;
             push_other_rows(out, others)
         }
     }

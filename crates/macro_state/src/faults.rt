@@ -159,7 +159,7 @@ impl Assembly {
             return Ok(());
         }
         let mut fault = report.fault;
-        if self.faults.len() >= Limit::Errors.most() as usize {
+        if self.faults.len() >= self.most_faults {
             self.stopped = true;
             fault = Fault::Limit(Limit::Errors);
         }

@@ -68,6 +68,8 @@ pub struct Listing {
     pub uses: Vec<Use>,
     /// Names that PURGE named.
     pub purged: Vec<u64>,
+    /// The lines of the source that have constants of floating point.
+    pub floats: Vec<u32>,
     /// The line with END.
     pub last: u32,
     mode: Mode,
@@ -86,6 +88,7 @@ impl Listing {
             hidden: Vec::new(alloc),
             uses: Vec::new(alloc),
             purged: Vec::new(alloc),
+            floats: Vec::new(alloc),
             last: 0,
             mode: Mode::Words,
             hidden_from: None,
@@ -102,6 +105,7 @@ impl Listing {
         self.hidden.clear();
         self.uses.clear();
         self.purged.clear();
+        self.floats.clear();
         self.last = 0;
         self.mode = Mode::Words;
         self.hidden_from = None;
@@ -116,6 +120,12 @@ impl Listing {
             line,
             defined,
         })?;
+        Ok(())
+    }
+
+    /// Notes that a line has a constant of floating point.
+    pub fn float(&mut self, line: u32) -> Result<(), AllocError> {
+        self.floats.push(line)?;
         Ok(())
     }
 

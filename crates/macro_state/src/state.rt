@@ -3,7 +3,7 @@
 use crate::listing::Listing;
 use macro_faults::{Failure, Report};
 use macro_names::Name;
-use macro_stream::{Place, Range, Stream};
+use macro_stream::{Limit, Place, Range, Stream};
 use macro_symbols::{Definitions, Dummy, MacroDefinition, Meanings, PlacedWords};
 use macro_values::Numbers;
 use std::alloc::{AllocError, Global};
@@ -139,6 +139,8 @@ pub struct Assembly {
     pub end_begun: bool,
     /// Whether END was read.
     pub ended: bool,
+    /// How many faults are reported before the assembly ends.
+    pub most_faults: usize,
     /// Whether a limit was reached.
     pub stopped: bool,
     /// Where the program starts.
@@ -199,6 +201,7 @@ impl Assembly {
             absent_files: Vec::new(alloc),
             end_begun: false,
             ended: false,
+            most_faults: Limit::Errors.most() as usize,
             stopped: false,
             start: 0o140,
             typed: Vec::new(alloc),

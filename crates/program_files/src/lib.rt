@@ -1,6 +1,7 @@
 //! What a file holds as a program: a source in the subset of MACRO-10 or in MACRO-10, or a core image.
 #![tactic(auto)]
 
+mod files;
 mod from_option;
 mod macro_sources;
 mod names;
@@ -8,6 +9,7 @@ mod programs;
 mod reports;
 mod several;
 
+pub use files::{ProgramFile, inputs_in, read_files};
 pub use from_option::{make_from, packing_in};
 pub use names::is_image_name;
 pub use programs::read_program;

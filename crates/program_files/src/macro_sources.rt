@@ -3,13 +3,15 @@ ghost use Rattle.std.specs.Prelude.{IfOk};
 ghost use Rattle.source_check.specs.Same.{ComesTo};
 ghost use Rattle.program_files.specs.Reads.{HasWritten, HandsOver};
 
+use crate::files::ProgramFile;
 use crate::reports::report_text;
+use joined_files::unread_text;
 use macro_assembly::assemble;
 use macro_output::{Written, source_of};
 use macro_state::Assembly;
 use macro_symbols::DefinitionKind;
 use macro_values::word_of;
-use source_labels::{Assembled, Literals, NamedNumber, Program, Source, places_in};
+use source_labels::{Assembled, Literals, NamedNumber, Program, places_in};
 use std::alloc::{AllocError, Global};
 
 /// The line where the words of a source are not those that are read back.
@@ -53,16 +55,25 @@ fn pools_of(state: &Assembly) -> Result<Vec<Literals>, AllocError> {
     Ok(pools)
 }
 
+/// What a source had typed out, and the lines on its files that are not read.
+fn typed_of(state: &Assembly, file: &ProgramFile<'_>) -> Result<Vec<u8>, AllocError> {
+    let (parts, end) = (file.parts.as_slice(), state.listing.last as usize);
+    let unread = unread_text(state.alloc, parts, end)?;
+    let mut typed = Vec::from_slice(state.alloc, state.typed.as_slice())?;
+    typed.extend_from_slice(unread.as_str().as_bytes())?;
+    Ok(typed)
+}
+
 /// The program of an assembly without faults, for which this source was written.
 fn program_of<'a>(
-    file: &'a str,
+    file: &ProgramFile<'a>,
     state: &Assembly,
     written: Written,
 ) -> Result<Program<'a>, AllocError>
     requires { ComesTo written.text.items written.image }
     ensures { IfOk result HasWritten }
 {
-    let typed = Vec::from_slice(state.alloc, state.typed.as_slice())?;
+    let typed = typed_of(state, file)?;
     let numbers = numbers_of(state)?;
     let pools = pools_of(state)?;
     let Written { text, image } = written;
@@ -70,7 +81,7 @@ fn program_of<'a>(
     places.numbers = numbers;
     places.pools = pools;
     Ok(Program {
-        file,
+        file: file.source.file,
         image,
         places,
         written: Some(text),
@@ -79,9 +90,13 @@ fn program_of<'a>(
 }
 
 /// What is wrong with a source. The lines of PRINTX stand before it.
-fn refusal_text(state: &Assembly, source: &Source<'_>, most: usize) -> Result<Vec<u8>, AllocError> {
-    let mut report = Vec::from_slice(state.alloc, state.typed.as_slice())?;
-    let text = report_text(state, source, most)?;
+fn refusal_text(
+    state: &Assembly,
+    file: &ProgramFile<'_>,
+    most: usize,
+) -> Result<Vec<u8>, AllocError> {
+    let mut report = typed_of(state, file)?;
+    let text = report_text(state, file, most)?;
     report.extend_from_slice(text.as_str().as_bytes())?;
     Ok(report)
 }
@@ -89,20 +104,20 @@ fn refusal_text(state: &Assembly, source: &Source<'_>, most: usize) -> Result<Ve
 /// What comes of a source by its assembly.
 fn answer_of<'a>(
     state: &Assembly,
-    source: &Source<'a>,
+    file: &ProgramFile<'a>,
     most: usize,
 ) -> Result<Assembled<'a>, AllocError>
     ensures { HandsOver result }
 {
     if !state.faults.is_empty() {
-        return Ok(Assembled::Refused(refusal_text(state, source, most)?));
+        return Ok(Assembled::Refused(refusal_text(state, file, most)?));
     }
-    let Some(written) = source_of(state, source.text.as_slice())? else {
-        let file = source.file;
+    let Some(written) = source_of(state, file.source.text.as_slice())? else {
+        let file = file.source.file;
         let text = format!(in state.alloc; "{file}: {NOT_READ_BACK}\n")?;
         return Ok(Assembled::Refused(text.into_bytes()));
     };
-    Ok(Assembled::Program(program_of(source.file, state, written)?))
+    Ok(Assembled::Program(program_of(file, state, written)?))
 }
 
 /// Lets an assembly go.
@@ -112,13 +127,13 @@ fn let_go(_state: Assembly) {}
 /// the subset that is written for it, or what is wrong with it.
 pub fn assemble_macro<'a>(
     alloc: Global,
-    source: &Source<'a>,
+    file: &ProgramFile<'a>,
     most: usize,
 ) -> Result<Assembled<'a>, AllocError>
     ensures { HandsOver result }
 {
-    let state = assemble(alloc, source.text.as_slice())?;
-    let answer = answer_of(&state, source, most);
+    let state = assemble(alloc, file.source.text.as_slice())?;
+    let answer = answer_of(&state, file, most);
     let_go(state);
     answer
 }

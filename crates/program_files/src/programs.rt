@@ -3,6 +3,7 @@ ghost use Rattle.std.specs.Prelude.{◌≡◌};
 ghost use Rattle.program_files.specs.Files.{IsImageName, IsSourceName};
 ghost use Rattle.program_files.specs.Reads.{AnswersImage, AnswersSource};
 
+use crate::files::ProgramFile;
 use crate::macro_sources::assemble_macro;
 use crate::names::is_image_name;
 use image_files::{ImageError, Packing, Wanted, fault_text, packing_that_fits, read_image};
@@ -50,12 +51,12 @@ fn load_image<'a>(
 #[tactic(auto, using(crate::proofs::Sources::own_source, crate::proofs::Sources::other_source))]
 fn load_source<'a>(
     alloc: Global,
-    file: &Source<'a>,
+    file: &ProgramFile<'a>,
     most: usize,
 ) -> Result<Assembled<'a>, AllocError>
-    ensures { AnswersSource result file.now.text.items }
+    ensures { AnswersSource result file.now.source.text.items }
 {
-    match assemble_source(alloc, file)? {
+    match assemble_source(alloc, &file.source)? {
         Tried::Program(program) => Ok(Assembled::Program(program)),
         Tried::Refused => assemble_macro(alloc, file, most),
     }
@@ -67,15 +68,15 @@ fn load_source<'a>(
 /// is no error: the text says what is wrong with it, and has `most` faults of a source at most.
 pub fn read_program<'a>(
     alloc: Global,
-    file: &Source<'a>,
+    file: &ProgramFile<'a>,
     from: Packing,
     most: usize,
 ) -> Result<Assembled<'a>, AllocError>
-    ensures image { IsImageName file.now.file.now → AnswersImage result file.now.file.now from file.now.text.items }
-    ensures source { IsSourceName file.now.file.now → AnswersSource result file.now.text.items }
+    ensures image { IsImageName file.now.source.file.now → AnswersImage result file.now.source.file.now from file.now.source.text.items }
+    ensures source { IsSourceName file.now.source.file.now → AnswersSource result file.now.source.text.items }
 {
-    if is_image_name(file.file) {
-        load_image(alloc, file, from)
+    if is_image_name(file.source.file) {
+        load_image(alloc, &file.source, from)
     } else {
         load_source(alloc, file, most)
     }

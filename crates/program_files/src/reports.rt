@@ -1,5 +1,7 @@
 //! What MACRO-10 reports of a source, in the form in which the faults of the subset are reported.
 
+use crate::files::ProgramFile;
+use joined_files::part_of;
 use macro_faults::{Fault as MacroFault, Report, push_around_place, push_words};
 use macro_names::{Name, text_of};
 use macro_state::Assembly;
@@ -98,21 +100,49 @@ fn open_literal(source: &[u8], before: usize) -> Option<usize> {
 /// Advice on what stands in a literal that should have ended before this line, if it should.
 fn advice_on_literal(
     alloc: Global,
-    source: &[u8],
+    file: &ProgramFile<'_>,
     before: usize,
 ) -> Result<Option<String>, AllocError> {
-    match open_literal(source, before) {
-        Some(first) => Ok(Some(format!(in alloc;
-            "the literal that begins in line {first} has no \"]\""
-        )?)),
-        None => Ok(None),
+    let Some(first) = open_literal(file.source.text.as_slice(), before) else {
+        return Ok(None);
+    };
+    let (name, line) = file.spot(first);
+    let text = if file.parts.is_empty() {
+        format!(in alloc; "the literal that begins in line {line} has no \"]\"")?
+    } else {
+        format!(in alloc; "the literal that begins in {name}:{line} has no \"]\"")?
+    };
+    Ok(Some(text))
+}
+
+/// Advice on a label of a line that is defined twice, if there is any.
+fn advice_on_twice(
+    state: &Assembly,
+    file: &ProgramFile<'_>,
+    name: Name,
+    line: usize,
+) -> Result<Option<String>, AllocError> {
+    let alloc = state.alloc;
+    if file.parts.is_empty() {
+        return advice_on_label(alloc, file.source.text.as_slice(), line);
     }
+    for used in &state.listing.uses {
+        if used.defined && used.name == name.sixbit() && (used.line as usize) < line {
+            let (other, first) = file.spot(used.line as usize);
+            let characters = text_of(name);
+            let text = str::from_utf8(characters.as_slice()).unwrap_or("it");
+            return Ok(Some(format!(in alloc;
+                "{other}:{first} has the label {text} already. Of a name the first six characters count."
+            )?));
+        }
+    }
+    Ok(None)
 }
 
 /// Advice on a fault, if there is any.
 fn advice_on(
     state: &Assembly,
-    source: &[u8],
+    file: &ProgramFile<'_>,
     report: &Report,
 ) -> Result<Option<String>, AllocError> {
     let (alloc, line) = (state.alloc, report.place.line as usize);
@@ -123,9 +153,9 @@ fn advice_on(
         MacroFault::Digits(_, 8) | MacroFault::LongDigits(_) => Ok(Some(String::from_str(
             alloc, DECIMAL,
         )?)),
-        MacroFault::Duplicate(_) if is_in_source => advice_on_label(alloc, source, line),
-        MacroFault::NotInLiteral(_) if is_in_source => advice_on_literal(alloc, source, line),
-        MacroFault::NoEnd => advice_on_literal(alloc, source, usize::MAX),
+        MacroFault::Duplicate(name) if is_in_source => advice_on_twice(state, file, name, line),
+        MacroFault::NotInLiteral(_) if is_in_source => advice_on_literal(alloc, file, line),
+        MacroFault::NoEnd => advice_on_literal(alloc, file, usize::MAX),
         _ => Ok(None),
     }
 }
@@ -153,17 +183,37 @@ fn push_around(
     Ok(())
 }
 
+/// Adds the line on what is wrong at a column of a line of a source, with its own file's name and number, and the line itself.
+fn push_at(
+    text: &mut String,
+    alloc: Global,
+    file: &ProgramFile<'_>,
+    place: ErrorPlace,
+    (reason, mark): (&str, &str),
+) -> Result<(), AllocError> {
+    let Some(part) = part_of(file.parts.as_slice(), place.line) else {
+        return push_error(text, &file.source, place, reason, mark);
+    };
+    let own = file.source.text.as_slice().get(part.start..).unwrap_or(&[]);
+    let source = Source {
+        file: part.file.as_str(),
+        text: Vec::from_slice(alloc, own)?,
+    };
+    let line = place.line.saturating_sub(part.before);
+    push_error(text, &source, ErrorPlace { line, ..place }, reason, mark)
+}
+
 /// Adds the lines on a fault: that of `push_error`, with the letter of MACRO-10; the macros, conditions and rounds around it,
 /// the innermost first, a line each; and advice, if there is any.
 fn push_fault(
     text: &mut String,
     state: &Assembly,
-    source: &Source<'_>,
+    file: &ProgramFile<'_>,
     report: &Report,
 ) -> Result<(), AllocError> {
     let alloc = state.alloc;
     let mut words = Vec::new(alloc);
-    let bytes = source.text.as_slice();
+    let bytes = file.source.text.as_slice();
     push_words(&mut words, report.fault, bytes, report.place.line)?;
     let mut reason = String::new(alloc);
     push_shown(&mut reason, words.as_slice())?;
@@ -172,9 +222,9 @@ fn push_fault(
         column: report.place.column as usize,
     };
     let mark = mark_of(alloc, report.fault)?;
-    push_error(text, source, place, reason.as_str(), mark.as_str())?;
+    push_at(text, alloc, file, place, (reason.as_str(), mark.as_str()))?;
     push_around(text, state, bytes, report)?;
-    match advice_on(state, bytes, report)? {
+    match advice_on(state, file, report)? {
         Some(advice) => write!(text, "    {}\n", advice.as_str()),
         None => Ok(()),
     }
@@ -184,14 +234,14 @@ fn push_fault(
 /// are.
 pub fn report_text(
     state: &Assembly,
-    source: &Source<'_>,
+    file: &ProgramFile<'_>,
     most: usize,
 ) -> Result<String, AllocError> {
     let mut text = String::new(state.alloc);
     let faults = by_place(state.alloc, state.faults.as_slice())?;
     for report in faults.as_slice().iter().take(most) {
-        push_fault(&mut text, state, source, report)?;
+        push_fault(&mut text, state, file, report)?;
     }
-    push_more(&mut text, source.file, faults.len(), most)?;
+    push_more(&mut text, file.source.file, faults.len(), most)?;
     Ok(text)
 }

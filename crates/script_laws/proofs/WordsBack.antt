@@ -1,12 +1,15 @@
 -- The words of a line, read back.
-use Rattle.std.proofs.Common.{◌≡◌, ◌==◌, ◌<◌, ◌≤◌, ◌+◌, ◌-◌, ◌*◌, ◌^◌, ◌&&◌, ◌++◌, ◌∙◌, ℕ, Bool, true, false, List, [], ◌∷◌, refl, ap, arith, length, decimal, Some, nat_lt, nat_le, not}
-use Rattle.std.proofs.lemmas.Bool.{lt-ltb, le-leb, ltb-true, leb-true, ne_eqb, and_parts, false≢true}
+use Rattle.std.proofs.Common.{◌≡◌, ◌==◌, ◌<◌, ◌≤◌, ◌+◌, ◌-◌, ◌*◌, ◌^◌, ◌&&◌, ◌++◌, ◌∙◌, ℕ, Bool, true, false, List, [], ◌∷◌, refl, ap, arith, length, decimal, cond, take, drop, Some, nat_lt, nat_le, not}
+use Rattle.std.proofs.lemmas.Bool.{lt-ltb, le-leb, ltb-true, leb-true, ne_eqb, and_parts, false_from_ne_true, false≢true}
 use Rattle.std.proofs.lemmas.Fmt.{decimal_nonempty, digits_decimal, digits_value-decimal}
 use Rattle.std.proofs.lemmas.List.Splits.{slice_split_at, slice_split_none}
 use Rattle.std.proofs.lemmas.List.Sums.{AllPass-from_list_all}
 use Rattle.std.proofs.lemmas.Str.Parse.{IsDigitsTest, FoldsDigits, IsNumeralModel, numerals_by_fold}
 use Rattle.std.specs.Cmp.Derive.{both_true}
-use Rattle.std.specs.List.{All, list_all}
+use Rattle.std.specs.Prelude.{suc}
+use Rattle.std.specs.List.{All, after_first, before_first, list_all, position_or_len}
+use Rattle.run_commands.specs.Commands.{is_space}
+use Rattle.run_commands.specs.Names.{is_name_character}
 use Rattle.script_io.specs.Numbers.{is_digit, value_onto, number, parts}
 
 -- ---- decimal numbers
@@ -73,3 +76,50 @@ unfolding parts
 two_words name second h k =
     slice_split_at (λ b. b == 32) name 32 second (spaceless name h) refl
     ∙ ap (λ r. name ∷ r) (slice_split_none (λ b. b == 32) second (spaceless second k))
+
+pub three_words : (name second third : List ℕ) → is_word name ≡ true → is_word second ≡ true → is_word third ≡ true
+    → parts 32 (name ++ 32 ∷ (second ++ 32 ∷ third)) ≡ name ∷ second ∷ third ∷ []
+unfolding parts
+three_words name second third h k l =
+    slice_split_at (λ b. b == 32) name 32 (second ++ 32 ∷ third) (spaceless name h) refl
+    ∙ ap (λ r. name ∷ r) (slice_split_at (λ b. b == 32) second 32 third (spaceless second k) refl
+    ∙ ap (λ r. second ∷ r) (slice_split_none (λ b. b == 32) third (spaceless third l)))
+
+-- what stands before the first space, and behind it
+first-space : (word rest : List ℕ) → is_word word ≡ true → position_or_len is_space (word ++ 32 ∷ rest) ≡ length word
+first-space [] rest h = refl
+first-space (c ∷ cs) rest h =
+    let k = and_parts (not (c == 32)) (is_word cs) h in
+    ap (λ b. cond b (1 + position_or_len is_space (cs ++ 32 ∷ rest)) 0) k.0 ∙ ap (λ n. 1 + n) (first-space cs rest k.1)
+    ∙ (let e : 1 + length cs ≡ length (c ∷ cs) = omega arith in e)
+
+take-word : (word rest : List ℕ) → take (length word) (word ++ rest) ≡ word
+take-word [] rest = refl
+take-word (c ∷ cs) rest = ap (λ l. c ∷ l) (take-word cs rest)
+
+drop-word : (word rest : List ℕ) → drop (length word + 1) (word ++ 32 ∷ rest) ≡ rest
+drop-word [] rest = refl
+drop-word (c ∷ cs) rest =
+    ap (λ n. drop n (c ∷ (cs ++ 32 ∷ rest))) (let e : length (c ∷ cs) + 1 ≡ suc (length cs + 1) = omega arith in e) ∙ drop-word cs rest
+
+pub front_of : (word rest : List ℕ) → is_word word ≡ true → before_first is_space (word ++ 32 ∷ rest) ≡ word
+front_of word rest h = ap (λ n. take n (word ++ 32 ∷ rest)) (first-space word rest h) ∙ take-word word (32 ∷ rest)
+
+pub rest_of : (word rest : List ℕ) → is_word word ≡ true → after_first is_space (word ++ 32 ∷ rest) ≡ rest
+rest_of word rest h = ap (λ n. drop (n + 1) (word ++ 32 ∷ rest)) (first-space word rest h) ∙ drop-word word rest
+
+pub all_digits : (n : ℕ) → n < 2 ^ 64 → list_all (is_digit 10) (decimal n) ≡ true
+all_digits n small = digits_decimal own n small
+
+digit_name : (c : ℕ) → 48 ≤ c → c - 48 < 10 → is_name_character c ≡ true
+digit_name c low high =
+    let top : c ≤ 57 = omega (arith, low, high) in
+    let small : nat_le 65 c ≡ false = false_from_ne_true (nat_le 65 c) (λ e. let k = leb-true 65 c e in omega (arith, k, top)) in
+    let no : nat_le 97 c ≡ false = false_from_ne_true (nat_le 97 c) (λ e. let k = leb-true 97 c e in omega (arith, k, top)) in
+    rw (small, no, le-leb 48 c low, le-leb c 57 top) refl
+
+pub name_digits : (ds : List ℕ) → list_all (is_digit 10) ds ≡ true → list_all is_name_character ds ≡ true
+name_digits [] e = refl
+name_digits (c ∷ cs) e =
+    let k = test.parts c cs e in
+    both_true (digit_name c k.0.0 (let less = k.0.1 in omega (arith, less))) (name_digits cs k.1)

@@ -11,7 +11,7 @@ ghost use Rattle.queue_script.specs.declared.locks.TheConstants.{CODE_DIGITS, MO
 ghost use Rattle.queue_script.specs.declared.options.TheConstants.{MOST_HALF, MOST_LEVEL};
 ghost use Rattle.script_io.specs.Printing.{printed};
 ghost use Rattle.script_io.specs.declared.line_sessions.TheConstants.{LINE_LENGTH};
-ghost use Rattle.script_laws.specs.ReadBack.{ReadsBack};
+ghost use Rattle.script_laws.specs.ReadBack.{OthersReadBack, ReadsBack};
 ghost use Rattle.script_laws.specs.Taking.{TakeTakesAll};
 
 /// The lines of a script: their length, the most steps and ticks, the greatest address, and the name of
@@ -28,10 +28,11 @@ pub fn printed_texts_are_read()
     ensures { (text : List ℕ) → All (λ c. c < 128) text → characters_of (printed text) ≡ Some text }
 {}
 
-/// `lockmon run` reads the lines of a piece of a recorded run, of steps, ticks, takes or changes of jobs, as the commands of
-/// that piece.
+/// `lockmon run` reads the lines of a piece of a recorded run as the commands of that piece, a remark as no command, and the lines
+/// before and after the pieces as ASSEMBLE with the program's name, and as SHOW.
 pub fn lines_are_read_back()
-    ensures { ReadsBack }
+    ensures pieces { ReadsBack }
+    ensures others { OthersReadBack }
 {}
 
 /// TAKE writes all output of a line, and leaves none of it: `MOST_TAKES` events of 64 characters are enough.

@@ -7,7 +7,7 @@ use crate::texts;
 use crate::typing::Return;
 use clap::{Arg, ArgMatches, Command};
 use machine::{Config, MOST_QUANTUM};
-use program_files::{make_from, packing_in};
+use program_files::{inputs_in, make_from, packing_in};
 use program_shell::{
     NameEnd, Refusal, Wrong, files_in, make_command, make_flag, make_option, matches_of, number_of,
     output_in, refused, size_in, with_files,
@@ -98,6 +98,7 @@ fn options_in<'a>(alloc: Global, matches: &ArgMatches<'a>) -> Result<Options<'a>
     let waits = number_of(matches, "waits", MOST_STEPS)?;
     let faults = number_of(matches, "max-errors", MOST_FAULTS)?;
     let files = files_in(alloc, matches)?;
+    let inputs = inputs_in(alloc, files.as_slice())?;
     Ok(Options {
         config: Config::new(size.blocks, size.quantum).unwrap(),
         from: packing_in(matches)?,
@@ -106,13 +107,14 @@ fn options_in<'a>(alloc: Global, matches: &ArgMatches<'a>) -> Result<Options<'a>
         locks: matches.get_flag("locks"),
         history: history as usize,
         waits,
-        picture: output_in(matches, "picture", PICTURE_END, files.as_slice())?,
-        record: output_in(matches, "record", RECORD_END, files.as_slice())?,
+        picture: output_in(matches, "picture", PICTURE_END, inputs.as_slice())?,
+        record: output_in(matches, "record", RECORD_END, inputs.as_slice())?,
         echo: matches.get_flag("echo"),
         ending: return_in(matches)?,
         faults: faults.unwrap_or(MOST_REPORTED as u64) as usize,
         names: shown_names(alloc, files.as_slice())?,
         files,
+        inputs,
     })
 }
 

@@ -31,8 +31,10 @@ pub struct Options<'a> {
     pub ending: Return,
     /// So many faults of a source are reported.
     pub faults: usize,
-    /// The names of the programs' files, 1 to 63: sources, and core images.
+    /// The arguments that name the programs' files, 1 to 63: sources, each of one file or several, and core images.
     pub files: Vec<&'a str>,
-    /// These names, as lines for a person show them.
+    /// The names of all files that are read.
+    pub inputs: Vec<&'a str>,
+    /// The arguments, as lines for a person show them.
     pub names: Vec<String>,
 }

@@ -6,11 +6,11 @@ use crate::options::Options;
 use crate::running::run_jobs;
 use crate::session::Session;
 use concrete_machine::Machine;
+use program_files::{ProgramFile, read_files};
 use program_shell::{
     DONE, FAILED, Failure, FailureLines, Host, PendingText, REFUSED, Refusal, Stream, USAGE,
     file_error_text, refusal_text,
 };
-use source_labels::Source;
 use std::alloc::Global;
 use std::io;
 
@@ -21,7 +21,7 @@ pub const FAILURE_LINES: FailureLines = FailureLines {
     memory: b"ten: there is no memory\n",
 };
 
-/// Reports that a file cannot be read or written.
+/// Reports that a file cannot be written.
 fn report_error(head: &str, file: &str, error: io::Error, errors: &mut PendingText) {
     errors.say_made(file_error_text(errors.alloc, head, file, error));
 }
@@ -30,7 +30,7 @@ fn report_error(head: &str, file: &str, error: io::Error, errors: &mut PendingTe
 fn read_sources<'a, H: Host>(
     host: &H,
     options: &'a Options<'_>,
-    sources: &mut Vec<Source<'a>>,
+    sources: &mut Vec<ProgramFile<'a>>,
     errors: &mut PendingText,
 ) -> bool {
     for (file, name) in options
@@ -39,17 +39,11 @@ fn read_sources<'a, H: Host>(
         .iter()
         .zip(options.names.as_slice())
     {
-        let name = name.as_str();
-        match host.read_file(file) {
-            Ok(text) => {
-                if sources.push(Source { file: name, text }).is_err() {
-                    errors.fail();
-                }
-            }
-            Err(error) => {
-                report_error("ten: ", name, error, errors);
-                return false;
-            }
+        let Some(read) = read_files(host, "ten: ", file, name.as_str(), errors) else {
+            return false;
+        };
+        if sources.push(read).is_err() {
+            errors.fail();
         }
     }
     true
@@ -136,7 +130,7 @@ fn serve_sources<H: Host>(
     host: &mut H,
     session: &mut Session,
     machine: &mut Machine,
-    sources: &[Source<'_>],
+    sources: &[ProgramFile<'_>],
     options: &Options<'_>,
 ) -> Result<u8, Failure> {
     let has_begun = session.begin(machine, sources, options);

@@ -3,12 +3,12 @@ ghost use Rattle.std.specs.Prelude.{◌≤◌};
 ghost use Rattle.run_record.specs.declared.pieces.TheConstants.{MOST_ROUNDS};
 
 use machine::Config;
-use program_files::is_image_name;
+use program_files::{ProgramFile, is_image_name};
 use program_shell::PendingText;
 use run_record::{
     EventSequence, RunEvent, push_end, push_head, push_pieces, push_program, unquotable_line,
 };
-use source_labels::{Program, Source};
+use source_labels::Program;
 use std::alloc::{AllocError, Global};
 
 /// The events of a run, where they are recorded.
@@ -38,7 +38,7 @@ impl Recording {
     }
 
     /// Takes down the programs of these sources, where the run is recorded.
-    pub fn add_programs(&mut self, sources: &[Source<'_>], programs: &[Program<'_>]) {
+    pub fn add_programs(&mut self, sources: &[ProgramFile<'_>], programs: &[Program<'_>]) {
         if self.events.is_some() {
             self.is_whole &= push_programs(&mut self.programs, sources, programs).is_ok();
         }
@@ -82,31 +82,35 @@ impl Recording {
 /// Adds the sources that programs stand for, as programs that are numbered from 1.
 fn push_programs(
     script: &mut Vec<u8>,
-    sources: &[Source<'_>],
+    sources: &[ProgramFile<'_>],
     programs: &[Program<'_>],
 ) -> Result<(), AllocError> {
     let mut number = 0u8;
     for (source, program) in sources.iter().zip(programs) {
         number = number.saturating_add(1);
-        let text = program.source_for(source.text.as_slice());
-        push_program(script, number, source.file, text)?;
+        let text = program.source_for(source.source.text.as_slice());
+        push_program(script, number, source.source.file, text)?;
     }
     Ok(())
 }
 
 /// Whether the source that a program stands for can stand in a script; reports why it cannot.
-fn is_quotable(source: &Source<'_>, program: &Program<'_>, errors: &mut PendingText) -> bool {
-    let (alloc, file) = (errors.alloc, source.file);
+fn is_quotable(source: &ProgramFile<'_>, program: &Program<'_>, errors: &mut PendingText) -> bool {
+    let (alloc, file) = (errors.alloc, source.source.file);
     if is_image_name(file) {
         errors.say_made(format!(in alloc;
             "{file}: not recorded: a script has no core images, but `image source` writes a source from one\n"
         ));
         return false;
     }
-    match unquotable_line(program.source_for(source.text.as_slice())) {
+    match unquotable_line(program.source_for(source.source.text.as_slice())) {
         None => true,
         Some(line) => {
-            let (number, reason) = (line.number, line.reason);
+            let reason = line.reason;
+            let (file, number) = match program.written {
+                None => source.spot(line.number),
+                Some(_) => (file, line.number),
+            };
             errors.say_made(format!(in alloc;
                 "{file}:{number}: not recorded: the line {reason}\n"
             ));
@@ -117,7 +121,7 @@ fn is_quotable(source: &Source<'_>, program: &Program<'_>, errors: &mut PendingT
 
 /// Whether the sources that programs stand for can all stand in a script; reports of each that cannot why.
 pub fn are_quotable(
-    sources: &[Source<'_>],
+    sources: &[ProgramFile<'_>],
     programs: &[Program<'_>],
     errors: &mut PendingText,
 ) -> bool {

@@ -15,13 +15,12 @@ use crate::waits::Waits;
 use concrete_machine::Machine;
 use machine::MOST_TAKES;
 use monitor::{Answer, Event};
-use program_files::read_programs;
+use program_files::{ProgramFile, read_programs};
 use program_shell::PendingText;
 use run_events::{Fact, RoundsMade};
 use run_facts::{Cut, Ending, UNASKED_CUT, has_ended_well, status_of};
 use run_notes::{has_circle, standing_of};
 use run_record::{MOST_ROUNDS, RunEvent};
-use source_labels::Source;
 use std::alloc::{AllocError, Global};
 use uuo_calls::BlockRoom;
 use word36::{Address, Image, TAKEN_AT_ONCE};
@@ -119,7 +118,7 @@ impl Session {
     pub fn begin(
         &mut self,
         machine: &mut Machine,
-        sources: &[Source<'_>],
+        sources: &[ProgramFile<'_>],
         options: &Options<'_>,
     ) -> bool {
         let Some(programs) = read_programs(sources, options.from, options.faults, &mut self.errors)

@@ -6,6 +6,7 @@ pub const PROGRAM: &str =
 
 /// How the program is called.
 pub const PROGRAM_END: &str = "As in:  ten examples/counter.mac\n\
+    A program of several files has all their names, as in pre.mac+prog.mac.\n\
     Lines of standard input are typed at line 0; with several files, those that begin with n: at line n.\n\
     What jobs type out goes to standard output, how each ended to standard error.\n\
     Jobs, ticks, steps, levels, groups and amounts are in decimal, ids of requests too, with a\n\

@@ -1,0 +1,7 @@
+use Rattle.std.proofs.Common.{◌≡◌, ◌+◌, drop}
+use Rattle.std.specs.List.{position_or_len}
+use Rattle.ddt_commands.specs.Texts.{is_byte}
+use Rattle.ddt_commands.proofs.reader.cut_at.Given as goal
+
+abbrev pub invariant-loop-i : goal.invariant-loop-i
+invariant-loop-i l = l.i + position_or_len (is_byte l.byte) (drop l.i l.text) ≡ position_or_len (is_byte l.byte) l.text
