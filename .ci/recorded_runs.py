@@ -113,7 +113,7 @@ MARK = b"U MARK\n"
 """What `ddt` answers to a symbol that is not defined, which changes nothing: it ends each answer."""
 WORD = re.compile(rb"/ ([0-7]{6},,[0-7]{6})")
 PLACES = [*range(0o20), *range(0o140, 0o240)]
-REFUSALS = ("words were deposited", "a job was started at a place", "a script has no core images")
+REFUSALS = ("words were deposited", "a job was started at a place", "an instruction was executed by hand", "a script has no core images")
 
 
 def shown(texts, is_numbered):
