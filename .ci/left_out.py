@@ -1,8 +1,8 @@
 #!/usr/bin/env python3
 """Compares two tables of the pages with the program's own: in docs/MACHINE.md, "What is left out", the names that are not here and
 what is said of them (crates/left_out); in docs/MACRO.md, "Index", each name that an assembler knows or refuses (ka_isa,
-macro_operations, left_out) or that SEARCH defines (search_files), and that each operator is among the signs. Each name that `image list`
-has for a number (image_service) is one that is left out. `--write` writes the tables of names anew."""
+macro_operations, left_out) or that SEARCH defines (search_files), and that each operator is among the signs. Each name that has a word
+by the manuals (left_out) is one that is left out, and none that an assembler knows. `--write` writes the tables of names anew."""
 import re
 import sys
 from pathlib import Path
@@ -74,10 +74,10 @@ def names_table():
     return [(" ".join(f"`{it}`" for it in names), words + here * (set(names) <= set(defined))) for names, words in rows()]
 
 
-def numbered():
-    """Gives the names that `image list` has for operations and calls that are not here."""
-    for name in ("OPERATIONS", "CALLS", "TERMINAL_CALLS"):
-        yield from re.findall(STRING, table("image_service/src/names.rt", name))
+def worded():
+    """Gives the names that have a word by the manuals: `macro --all-operations` takes them, and `image list` has some."""
+    for name in ("OPERATIONS", "CALLS", "TERMINAL_CALLS", "OTHERS"):
+        yield from re.findall(STRING, table("left_out/src/words.rt", name))
 
 
 # ---- the index
@@ -163,7 +163,9 @@ def index():
         yield name, ("[operation](#statements-of-macro) of `macro`", f"in `lockmon asm`: {operation_of(int(word, 8))}")
     defined = dict(universal())
     yield from defined.items()
-    yield from ((it, ("refused", words)) for names, words in rows() for it in names if it not in defined)
+    words_of = set(worded())
+    refused = {False: "refused", True: "refused, and [taken](#operations-that-are-not-here) with `--all-operations`"}
+    yield from ((it, (refused[it in words_of], words)) for names, words in rows() for it in names if it not in defined)
 
 
 def index_table():
@@ -213,9 +215,10 @@ def main():
         print(f"left_out: docs/{' and docs/'.join(wrong)} has another table than the program; .ci/left_out.py --write", file=sys.stderr)
         return 1
     left_out = {name for names, _ in rows() for name in names}
-    here = [it for it in numbered() if it not in left_out]
+    known = {name for name, (here, _) in index() if not here.startswith("refused")}
+    here = [it for it in worded() if it not in left_out or it in known]
     if here:
-        print(f"left_out: image list has a name for what is here: {' '.join(here)}", file=sys.stderr)
+        print(f"left_out: a name with a word is not left out, or is here: {' '.join(here)}", file=sys.stderr)
         return 1
     page = (TOP / "docs/MACRO.md").read_text()
     signs = page[slice(*part_of(page, SIGNS_HEAD))]

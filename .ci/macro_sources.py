@@ -6,10 +6,12 @@
 - What `macro` writes of the sources of tests/macro and examples/: `lockmon asm` takes it, and `macro` writes it again as it
   stands, also where a listing is wanted.
   Each ends with the status of its run; the examples of which `macro` makes words, and a source of 100,000 lines, with 0.
-- The lines of OLD_LINES, which people typed from sources of the time, each behind a head: those with `+` are taken, those with `-`
-  are told.
+- The lines of OLD_LINES, which people typed from sources of the time, each behind a head: those with `+` are taken, and mean the same
+  with ALL, those with `o` are taken with ALL alone, each with a warning, and those with `-` are told.
 - Those sources with random bytes in them, put in, taken out and doubled: `macro` ends with a source or with errors, and
   what it writes is taken.
+- Sources made by chance, with macros, conditions, literals and repetitions (made_sources.py): `macro` ends with a source or with
+  errors. So its second reader finds nothing else in any of them than was assembled, which would be status 3.
 
 The programs are those that `rt ci` built, or those that words NAME=PATH say. What does not hold is told, and the last line
 counts what does."""
@@ -24,6 +26,7 @@ from tempfile import TemporaryDirectory
 
 sys.dont_write_bytecode = True
 import crates
+import made_sources
 import stored_runs
 import written
 
@@ -32,9 +35,13 @@ SECONDS = 120
 LINES = 100_000
 CHANGED = 2_000
 """So many sources have random bytes."""
+MADE = 10_000
+"""So many sources are made by chance."""
 PIECES = [*b"<>[](),:;=#'\"\\%.*/&!_^@+-\t\n\r \0\x7f\xff", *b"0189ABN"]
 OLD_LINES = TOP / "tests" / "macro" / "old_lines.txt"
+ALL = "--all-operations"
 OLD_HEAD = b"\tSEARCH\tUUOSYM,MACTEN,JOBDAT\nA=1\nB=2\nCH=3\nT1=4\nFOO:\nTAB:\nSTART:\n"
+WARNING = re.compile(rb"%MACRO [0-9]+:[0-9]+ [^\n]+ is not here: [^\n]+\n")
 SOURCE = re.compile(rb"(?:[^?\n][^\n]*\n)* END [0-7]+\n")
 ERRORS = re.compile(rb"(?:\?MACRO [0-9]+:[0-9]+ [A-Z-] [^\n]+\n(?: in [^\n]+ line [0-9]+\n)*(?: and [0-9]+ more\n)?)+(?:and [0-9]+ more errors\n)?")
 
@@ -58,8 +65,11 @@ class Programs:
             crate = crates.crate_of(name)
             self.paths[name] = os.path.abspath(named.get(name, TOP / "crates" / crate / "out" / crate))
 
+    def ran(self, name, words, source):
+        return subprocess.run([self.paths[name], *words], input=source, capture_output=True, timeout=SECONDS, check=False)
+
     def run(self, name, words, source):
-        ran = subprocess.run([self.paths[name], *words], input=source, capture_output=True, timeout=SECONDS, check=False)
+        ran = self.ran(name, words, source)
         return ran.returncode, ran.stdout
 
     def image(self, source):
@@ -81,13 +91,27 @@ class Programs:
         again = [self.run("macro", words, output) for words in ([], self.listed)]
         return None if again == [(0, output)] * 2 else "what is written is written otherwise"
 
+    def unread(self, source):
+        """Gives what is wrong with how `macro` ends for a source, if anything is."""
+        status, output = self.run("macro", [], source)
+        form = {0: SOURCE, 1: ERRORS}.get(status)
+        return None if form and form.fullmatch(output) else f"status {status}: {output[:200]}\n{source.decode()}"
+
     def untold(self, marked):
         """Gives what is wrong with a marked line of OLD_LINES, if anything is."""
         mark, line = marked[:1], marked[2:].replace(b"\\n", b"\n")
-        status, output = self.run("macro", [], OLD_HEAD + line + b"\n\tEND\n")
-        if status == 0:
-            return None if mark == b"+" else "it is taken"
-        return None if mark == b"-" and ERRORS.fullmatch(output) else f"status {status}: {output[:200]}"
+        source = OLD_HEAD + line + b"\n\tEND\n"
+        status, output = self.run("macro", [], source)
+        wanted = self.ran("macro", [ALL], source)
+        if mark == b"+":
+            is_same = (wanted.returncode, wanted.stdout, wanted.stderr) == (0, output, b"")
+            return f"status {status}: {output[:200]}" if status else None if is_same else f"{ALL}: {wanted}"
+        if status == 0 or not ERRORS.fullmatch(output):
+            return "it is taken" if status == 0 else f"status {status}: {output[:200]}"
+        if mark == b"o":
+            warns = WARNING.match(wanted.stderr) and self.image(wanted.stdout)
+            return None if wanted.returncode == 0 and warns else f"{ALL}: {wanted}"
+        return None if mark == b"-" and wanted.returncode == 1 and ERRORS.fullmatch(wanted.stdout) else f"{ALL}: {wanted}"
 
     def other_image(self, source):
         """Gives what is wrong with a source of the subset, if anything is."""
@@ -140,6 +164,12 @@ def changed(sources):
         yield f"{place}, change {number}", bytes(text)
 
 
+def made():
+    """Gives sources that are made by chance. They are the same in each run."""
+    for number in range(MADE):
+        yield f"made source {number}", made_sources.Maker(random.Random(number)).source().encode()
+
+
 def main(words):
     with TemporaryDirectory() as folder:
         return compare(Programs(dict(word.partition("=")[::2] for word in words), folder))
@@ -151,9 +181,10 @@ def compare(programs):
     asked = [(place, programs.other_image, (source,)) for place, source in subset()]
     lines = OLD_LINES.read_bytes().splitlines()
     asked += [(f"{OLD_LINES.name}:{number}", programs.untold, (line,)) for number, line in enumerate(lines, 1)]
-    taken = sum(line.startswith(b"+") for line in lines)
-    print(f"old lines: {taken} of {len(lines)} are taken", file=sys.stderr)
+    taken, others = (sum(line.startswith(mark) for line in lines) for mark in (b"+", b"o"))
+    print(f"old lines: {taken} of {len(lines)} are taken, and {others} more with {ALL}", file=sys.stderr)
     asked += [(place, programs.fault, words) for place, *words in [*sources, ("100,000 lines", long(), 0), *changed(sources)]]
+    asked += [(place, programs.unread, (source,)) for place, source in made()]
     with ThreadPoolExecutor(len(os.sched_getaffinity(0)) + 1) as pool:
         found = list(pool.map(lambda it: it[1](*it[2]), asked))
     wrong = [f"{place}: {fault}" for (place, _, _), fault in zip(asked, found) if fault]

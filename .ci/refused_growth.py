@@ -104,6 +104,7 @@ def cases(folder):
     yield Case("macro", ["--list", listing], b" MOVEI 1,NOWHR\n END\n", 1)
     yield Case("macro", [str(TOP / "examples" / it) for it in ("names.mac", "greets.mac")], b"")
     yield Case("macro", ["--survey", str(TOP / "examples" / "slips.mac")], b"")
+    yield Case("macro", ["--all-operations", str(TOP / "examples" / "asks.mac")], b"")
     yield Case("macro", ["--flies"], b"", 2)
     yield Case("ten", [str(TOP / "examples" / "squares.mac")], b"")
     yield Case("ten", [str(TOP / "examples" / "doubled.mac")], b"", 1)

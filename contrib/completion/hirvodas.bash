@@ -5,7 +5,7 @@ _hirvodas() {
     case $word in
         -*)
             help=$("${COMP_WORDS[0]}" $([[ ${COMP_WORDS[0]##*/} = @(lockmon|image) ]] && [ "$COMP_CWORD" -gt 1 ] && echo "${COMP_WORDS[1]}") --help 2>&1)
-            COMPREPLY=($(compgen -W "$(grep -oE -- '^ .*--[a-z]+' <<<"$help" | grep -oE -- '--[a-z]+')" -- "$word")) ;;
+            COMPREPLY=($(compgen -W "$(grep -oE -- '^ .*--[a-z-]+' <<<"$help" | grep -oE -- '--[a-z-]+')" -- "$word")) ;;
         *)
             COMPREPLY=()
             [ "${COMP_WORDS[0]##*/}:$COMP_CWORD" != lockmon:1 ] || COMPREPLY=($(compgen -W "run queue asm help" -- "$word"))

@@ -6,9 +6,9 @@ use ddt_moves::{is_edited, is_executed};
 use ddt_show::refuse;
 use ddt_timeline::{Timeline, push_past};
 use machine::Config;
-use program_files::{ProgramFile, is_image_name};
+use program_files::{ProgramFile, not_recorded};
 use program_shell::PendingText;
-use run_record::{push_end, push_head, push_program, unquotable_line};
+use run_record::{push_end, push_head, push_program};
 use std::alloc::{AllocError, Global};
 
 /// The sources of a session, as a script begins with them.
@@ -31,30 +31,13 @@ impl ScriptHead {
 
     /// Adds the source of a job as the program of its number, or why it cannot stand in a script.
     fn add(&mut self, job: &SessionJob, source: &ProgramFile<'_>) -> Result<(), AllocError> {
-        let (alloc, file) = (self.refusals.alloc, job.file.as_str());
-        if is_image_name(source.source.file) {
-            self.refusals.say("? ");
-            self.refusals.say(file);
-            self.refusals.say(
-                ": not recorded: a script has no core images, but `image source` writes a source from one\n",
-            );
+        if let Some(refusal) = not_recorded(source, &job.written) {
+            let alloc = self.refusals.alloc;
+            self.refusals.say_made(format!(in alloc; "? {refusal}\n"));
             return Ok(());
         }
         let text = job.source_for(source.source.text.as_slice());
-        match unquotable_line(text) {
-            Some(line) => {
-                let reason = line.reason;
-                let (file, number) = match job.written {
-                    None if !source.parts.is_empty() => source.spot(line.number),
-                    _ => (file, line.number),
-                };
-                self.refusals.say_made(format!(in alloc;
-                    "? {file}:{number}: not recorded: the line {reason}\n"
-                ));
-                Ok(())
-            }
-            None => push_program(&mut self.text, job.shown.number, file, text),
-        }
+        push_program(&mut self.text, job.shown.number, job.file.as_str(), text)
     }
 
     /// Adds the command, for a machine of this size, and the source of each job.

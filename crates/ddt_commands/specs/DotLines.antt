@@ -1,10 +1,14 @@
--- What a command says that begins with a point: its word, in upper or lower case, and what stands behind that (this project's
--- profile; the manual's chapter on `ddt` has the commands).
-use Rattle.std.specs.Prelude.{◌≡◌, ◌≢◌, ℕ, ◌==◌, ◌&&◌, Bool, true, false, nat_le, nat_lt, List, length, if◌then◌else◌}
+-- What a command says that begins with a point: its word, in upper or lower case, and what stands behind that; and what any
+-- line says (this project's profile; the manual's chapter on `ddt` has the commands).
+use Rattle.std.specs.Prelude.{◌≡◌, ◌≢◌, ℕ, ◌==◌, ◌&&◌, ◌^◌, Bool, true, false, nat_le, nat_lt, List, length, drop, slice_index, if◌then◌else◌}
 use Rattle.std.specs.Prelude.{codes, Option, Some, None, Result, Ok, Err}
-use Rattle.std.specs.Str.{str_eq_ignore_ascii_case}
+use Rattle.std.specs.List.{after_first, before_first}
 use Rattle.word36.specs.declared.sizes.TheConstants.{JOBS, LINES}
+use Rattle.ddt_commands.specs.Lines.{break_of, command_in, is_dot}
 use Rattle.ddt_commands.specs.Numbers.{decimal_in}
+use Rattle.ddt_commands.specs.Texts.{behind_blanks, first_word, has, is_byte, is_name, trimmed}
+use Rattle.ddt_commands.specs.Values.{◌>>=◌, address_of}
+use Rattle.ddt_commands.specs.declared.values.Scope.{Scope}
 use Rattle.ddt_commands.specs.declared.commands.Command.{Command}
 use Rattle.ddt_commands.specs.declared.commands.Command.TheVariants as command
 use Rattle.ddt_commands.specs.declared.dot_commands.DotCommand.{DotCommand}
@@ -15,10 +19,6 @@ use Rattle.ddt_commands.specs.declared.line_errors.LineError.{LineError}
 use Rattle.ddt_commands.specs.declared.line_errors.LineError.TheVariants as fault
 
 -- ---- the words
-
--- whether a word is a name, in upper or lower case
-abbrev pub is_name : List ℕ → List ℕ → Bool
-is_name name word = str_eq_ignore_ascii_case word name
 
 -- the command that a word names
 abbrev pub dot_of : List ℕ → Option DotCommand
@@ -110,30 +110,83 @@ SaysType number typed (Ok (command.Type line text)) = (is_line number ≡ true) 
 SaysType number typed (Err fault.NoLine) = is_line number ≡ false
 SaysType number typed _ = ⊥
 
--- ---- commands with an address, of which no definition says how it is read
+-- ---- commands with an address
 
-abbrev pub IsBackTo : Command → Type 0
-IsBackTo (command.BackTo a) = Unit {0}
-IsBackTo _ = ⊥
+-- `.BACK n`, `.BACK TO a` and `.BACK WRITE a`
+abbrev pub back_of : Scope → List ℕ → Result Command LineError
+back_of scope rest =
+    if is_name (codes "TO") (first_word rest)
+    then (address_of scope (behind_blanks rest) >>= λ address. Ok (command.BackTo address))
+    else if is_name (codes "WRITE") (first_word rest)
+    then (address_of scope (behind_blanks rest) >>= λ address. Ok (command.BackWrite address))
+    else with_count command.Back (count_in 0 (2 ^ 39) 1 rest)
 
-abbrev pub IsBackWrite : Command → Type 0
-IsBackWrite (command.BackWrite a) = Unit {0}
-IsBackWrite _ = ⊥
+-- `.EX a-b` and `.EX a`
+abbrev pub examine_of : Scope → List ℕ → Result Command LineError
+examine_of scope rest =
+    if has (is_byte 45) rest
+    then
+    (address_of scope (before_first (is_byte 45) rest) >>= λ first. address_of scope (after_first (is_byte 45) rest) >>= λ last.
+    Ok (command.Examine first last))
+    else address_of scope rest >>= λ first. Ok (command.Examine first first)
 
-abbrev pub IsExamine : Command → Type 0
-IsExamine (command.Examine a b) = Unit {0}
-IsExamine _ = ⊥
-
-abbrev pub IsWatch : Command → Type 0
-IsWatch (command.Watch a) = Unit {0}
-IsWatch _ = ⊥
-
-abbrev pub IsBreakpoint : Command → Type 0
-IsBreakpoint (command.SetBreakpoint b) = Unit {0}
-IsBreakpoint _ = ⊥
+abbrev pub watch_of : Scope → List ℕ → Result Command LineError
+watch_of scope rest = address_of scope rest >>= λ address. Ok (command.Watch address)
 
 -- the name of a lock, which may not be missing
 abbrev pub SaysLock : List ℕ → Result Command LineError → Type 0
 SaysLock name (Ok (command.BreakLock text)) = (length name ≢ 0) × (text.now ≡ name)
 SaysLock name (Err fault.NoLock) = length name ≡ 0
 SaysLock name _ = ⊥
+
+-- `.BREAK a` with its limits, `.BREAK LOCK name`, `.BREAK GRANT` and `.BREAK CIRCLE`
+abbrev pub SaysBreak : Scope → List ℕ → Result Command LineError → Type 0
+SaysBreak scope rest result =
+    elim (is_name (codes "GRANT") (first_word rest)) [
+      | true ↦ result ≡ Ok command.BreakGrant
+      | false ↦ elim (is_name (codes "CIRCLE") (first_word rest)) [
+        | true ↦ result ≡ Ok command.BreakCircle
+        | false ↦ elim (is_name (codes "LOCK") (first_word rest)) [
+          | true ↦ SaysLock (behind_blanks rest) result
+          | false ↦ result ≡ break_of scope rest
+        ]
+      ]
+    ]
+
+-- ---- all dot commands, by the word, and the text after it
+
+abbrev pub SaysDot : Scope → List ℕ → Option DotCommand → Result Command LineError → Type 0
+SaysDot scope rest (Some (dot.Lone word)) result = result ≡ (if is_none_left rest then Ok (lone_of word) else Err fault.BehindCommand)
+SaysDot scope rest (Some dot.Back) result = result ≡ back_of scope rest
+SaysDot scope rest (Some dot.Break) result = SaysBreak scope rest result
+SaysDot scope rest (Some dot.Do) result = SaysDo rest result
+SaysDot scope rest (Some dot.Ex) result = result ≡ examine_of scope rest
+SaysDot scope rest (Some dot.Help) result = SaysHelp rest result
+SaysDot scope rest (Some dot.History) result = result ≡ with_count command.History (count_in 1 1000 10 rest)
+SaysDot scope rest (Some dot.Job) result = result ≡ job_in (decimal_in rest)
+SaysDot scope rest (Some dot.Record) result = SaysRecord rest result
+SaysDot scope rest (Some dot.Run) result = result ≡ with_count command.Run (count_in 1 1000000000 10000000 rest)
+SaysDot scope rest (Some dot.Save) result = SaysSave rest result
+SaysDot scope rest (Some dot.Step) result = result ≡ with_count command.Step (count_in 1 1000000000 1 rest)
+SaysDot scope rest (Some dot.Tick) result = result ≡ with_count command.Tick (count_in 1 6000 1 rest)
+SaysDot scope rest (Some dot.Type) result = SaysType (decimal_in (first_word rest)) (behind_blanks rest) result
+SaysDot scope rest (Some dot.Watch) result = result ≡ watch_of scope rest
+SaysDot scope rest None result = result ≡ Err fault.NoCommand
+
+-- ---- all lines
+
+-- a line without blanks round it
+abbrev pub SaysText : Scope → List ℕ → Result Command LineError → Type 0
+SaysText scope text result =
+    elim (is_dot text) [
+      | true ↦ SaysDot scope (behind_blanks (drop 1 text)) (dot_of (first_word (drop 1 text))) result
+      | false ↦ result ≡ command_in scope text
+    ]
+
+-- a line as it is typed: an empty one and a tab say something too
+abbrev pub SaysLine : Scope → List ℕ → Result Command LineError → Type 0
+SaysLine scope line result =
+    elim (length line == 0) [
+      | true ↦ result ≡ Ok command.Next
+      | false ↦ elim ((length line == 1) && (slice_index line 0 == 9)) [ true ↦ result ≡ Ok command.Addressed | false ↦ SaysText scope (trimmed line) result ]
+    ]

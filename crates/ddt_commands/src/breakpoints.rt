@@ -1,148 +1,236 @@
-//! Breakpoints, and the limits behind them: `a$nB IF b=v TIMES n`.
-ghost use Rattle.std.specs.Prelude.{IfOk};
-ghost use Rattle.ddt_commands.specs.DotLines.{IsBreakpoint};
-ghost use Rattle.ddt_commands.specs.Lines.{IsOfBreakpoint};
+//! Breakpoints, and the limits after them: `a$nB IF b=v TIMES n`.
+ghost use Rattle.std.specs.Prelude.{◌≡◌, ◌<◌, [], codes, drop, is_some, length, IfSome};
+ghost use Rattle.ddt_commands.specs.Lines.{break_of, breakpoint_in, breakpoint_of, compared_parts, comparison_in, comparison_place, condition_in, ends_a_word};
+ghost use Rattle.ddt_commands.specs.Lines.{if_in, limited, limits_in, limits_place, is_limit_at, is_word_at, parts_of, placed, visits_in, with_limits, word_place};
+ghost use Rattle.ddt_commands.specs.Texts.{cut_of};
 
 use crate::commands::{Command, NewBreakpoint};
 use crate::escaped::{Escaped, cut_at_escape};
 use crate::line_errors::LineError;
 use crate::numbers::{number, times};
-use crate::reader::{cut_word, is_blank};
+use crate::reader::{begins, behind, cut_word, is_blank, is_name, is_second, trimmed};
 use crate::values::{Scope, read_address, read_value};
 use ddt_breakpoints::{BREAKPOINTS, Comparison, Condition};
 
-/// Cuts a line behind the command of a breakpoint, where a blank stands there: the command, and the limits behind it.
-pub fn cut_limits(text: &[u8]) -> Option<(Escaped<'_>, &[u8])> {
-    for (i, byte) in text.iter().enumerate() {
-        if is_blank(*byte) {
-            match cut_at_escape(&text[..i]) {
-                Some(line) if line.letter == b'B' => return Some((
-                    line,
-                    text[i + 1..].trim_ascii(),
-                )),
-                _ => {}
-            }
+/// Whether a blank is at a place, after the command of a breakpoint.
+fn is_limit_at(text: &[u8], i: usize) -> bool
+    requires { i < length text.now }
+    ensures { result ≡ is_limit_at text.now i }
+{
+    if !is_blank(text[i]) {
+        return false;
+    }
+    match cut_at_escape(&text[..i]) {
+        Some(line) => line.letter == b'B',
+        None => false,
+    }
+}
+
+/// The place of the first blank after the command of a breakpoint.
+pub fn limits_place(text: &[u8]) -> Option<usize>
+    ensures place { result ≡ limits_place text.now }
+    ensures within { IfSome result (λ i. i < length text.now) }
+{
+    'places: for i in 0..text.len() {
+        if is_limit_at(text, i) {
+            return Some(i);
         }
     }
     None
 }
 
+/// Reads the command of a breakpoint before a blank, with the limits after that.
+pub fn read_limited<'a>(
+    command: &[u8],
+    limits: &[u8],
+    scope: &Scope<'_>,
+) -> Result<Command<'a>, LineError>
+    ensures { result ≡ with_limits scope.now (cut_of command.now) limits.now }
+{
+    match cut_at_escape(command) {
+        Some(line) => read_breakpoint(line.before, line.digits, limits, scope),
+        None => Err(LineError::NoBreakpoint),
+    }
+}
+
 /// Whether a text is empty, or ends in a blank.
-fn ends_a_word(text: &[u8]) -> bool {
+fn ends_a_word(text: &[u8]) -> bool
+    ensures { result ≡ ends_a_word text.now }
+{
     match text {
         [] => true,
         [.., last] => is_blank(*last),
     }
 }
 
-/// Cuts a text at the first of its words that is one of two, in upper or lower case: the text before it, and the one from it on.
-fn cut_before<'a>(text: &'a [u8], word: &[u8], other: &[u8]) -> Option<(&'a [u8], &'a [u8])> {
-    for i in 0..text.len() {
-        let (first, _) = cut_word(&text[i..]);
-        let is_one = first.eq_ignore_ascii_case(word) || first.eq_ignore_ascii_case(other);
-        if is_one && ends_a_word(&text[..i]) {
-            return Some((text[..i].trim_ascii(), &text[i..]));
+/// Whether a word begins at a place that is one of two, in upper or lower case.
+fn is_word_at(text: &[u8], i: usize, word: &[u8], other: &[u8]) -> bool
+    requires { i < length text.now }
+    ensures { result ≡ is_word_at word.now other.now text.now i }
+{
+    let (first, _) = cut_word(behind(text, i));
+    (is_name(first, word) || is_name(first, other)) && ends_a_word(&text[..i])
+}
+
+/// The place of the first word of a text that is one of two, in upper or lower case.
+fn word_place(text: &[u8], word: &[u8], other: &[u8]) -> Option<usize>
+    ensures place { result ≡ word_place word.now other.now text.now }
+    ensures within { IfSome result (λ i. i < length text.now) }
+{
+    'places: for i in 0..text.len() {
+        if is_word_at(text, i, word, other) {
+            return Some(i);
         }
     }
     None
 }
 
-/// Reads how two words are compared, where a text begins with that: the comparison, and what stands behind it.
-fn comparison(text: &[u8]) -> Option<(Comparison, &[u8])> {
-    match text {
-        [b'<', b'>', rest @ ..] => Some((Comparison::NotEqual, rest)),
-        [b'<', b'=', rest @ ..] => Some((Comparison::LessOrEqual, rest)),
-        [b'>', b'=', rest @ ..] => Some((Comparison::GreaterOrEqual, rest)),
-        [b'<', rest @ ..] => Some((Comparison::Less, rest)),
-        [b'>', rest @ ..] => Some((Comparison::Greater, rest)),
-        [b'=', rest @ ..] => Some((Comparison::Equal, rest)),
-        _ => None,
+/// Reads how two words are compared, if a text begins with that: the comparison, and the text after it.
+fn comparison(text: &[u8]) -> Option<(Comparison, &[u8])>
+    ensures parts { compared_parts result ≡ comparison_in text.now }
+    ensures found { is_some result ≡ is_some (comparison_in text.now) }
+{
+    if begins(b'<', text) && is_second(b'>', text) {
+        return Some((Comparison::NotEqual, behind(text, 2)));
     }
+    if begins(b'<', text) && is_second(b'=', text) {
+        return Some((Comparison::LessOrEqual, behind(text, 2)));
+    }
+    if begins(b'>', text) && is_second(b'=', text) {
+        return Some((Comparison::GreaterOrEqual, behind(text, 2)));
+    }
+    if begins(b'<', text) {
+        return Some((Comparison::Less, behind(text, 1)));
+    }
+    if begins(b'>', text) {
+        return Some((Comparison::Greater, behind(text, 1)));
+    }
+    if begins(b'=', text) {
+        return Some((Comparison::Equal, behind(text, 1)));
+    }
+    None
+}
+
+/// The place of the first comparison in a text.
+fn comparison_place(text: &[u8]) -> Option<usize>
+    ensures place { result ≡ comparison_place text.now }
+    ensures within { IfSome result (λ i. i < length text.now) }
+{
+    'places: for i in 0..text.len() {
+        if comparison(behind(text, i)).is_some() {
+            return Some(i);
+        }
+    }
+    None
 }
 
 /// Reads a condition: `COUNT>5`.
-fn read_condition(text: &[u8], scope: &Scope<'_>) -> Result<Condition, LineError> {
-    for i in 0..text.len() {
-        if let Some((comparison, value)) = comparison(&text[i..]) {
+fn read_condition(text: &[u8], scope: &Scope<'_>) -> Result<Condition, LineError>
+    ensures { result ≡ condition_in scope.now text.now }
+{
+    let Some(i) = comparison_place(text) else {
+        return Err(LineError::NoCondition);
+    };
+    match comparison(behind(text, i)) {
+        Some((comparison, value)) => {
             let address = read_address(&text[..i], scope)?;
             let value = read_value(value, scope)?;
-            return Ok(Condition {
+            Ok(Condition {
                 address,
                 comparison,
                 value,
-            });
+            })
         }
+        None => Err(LineError::NoCondition),
     }
-    Err(LineError::NoCondition)
 }
 
 /// Reads the part of the limits before TIMES: `IF a=v`, or nothing.
-fn read_if(text: &[u8], scope: &Scope<'_>) -> Result<Option<Condition>, LineError> {
-    match cut_word(text) {
-        ([], _) => Ok(None),
-        (word, condition) if word.eq_ignore_ascii_case(b"IF") => {
-            Ok(Some(read_condition(condition, scope)?))
-        }
-        _ => Err(LineError::NoLimit),
+fn read_if(text: &[u8], scope: &Scope<'_>) -> Result<Option<Condition>, LineError>
+    ensures { result ≡ if_in scope.now text.now }
+{
+    let (word, condition) = cut_word(text);
+    if word.is_empty() {
+        return Ok(None);
+    }
+    if !is_name(word, b"IF") {
+        return Err(LineError::NoLimit);
+    }
+    match read_condition(condition, scope) {
+        Ok(condition) => Ok(Some(condition)),
+        Err(error) => Err(error),
     }
 }
 
 /// Reads the part of the limits from TIMES on: `TIMES n`, or nothing.
-fn read_times(text: &[u8]) -> Result<u32, LineError> {
-    match cut_word(text) {
-        ([], _) => Ok(1),
-        (_, count) => times(count).ok_or(LineError::NoVisits),
+fn read_times(text: &[u8]) -> Result<u32, LineError>
+    ensures { result ≡ visits_in text.now }
+{
+    let (word, count) = cut_word(text);
+    if word.is_empty() {
+        return Ok(1);
+    }
+    match times(count) {
+        Some(times) => Ok(times),
+        None => Err(LineError::NoVisits),
     }
 }
 
+/// Reads the limits of a breakpoint, cut before TIMES.
+fn read_parts<'a>(
+    address: u32,
+    number: Option<u8>,
+    front: &[u8],
+    times: &[u8],
+    scope: &Scope<'_>,
+) -> Result<Command<'a>, LineError>
+    ensures { result ≡ limited scope.now address number front.now times.now }
+{
+    let condition = read_if(front, scope)?;
+    let times = read_times(times)?;
+    Ok(Command::SetBreakpoint(NewBreakpoint {
+        address,
+        number,
+        condition,
+        times,
+    }))
+}
+
 /// Reads the limits of a breakpoint: `IF a=v`, `TIMES n`, both in this order, or none.
+#[tactic(auto, unfolding(crate::specs::Lines::limits_in))]
 fn read_limits<'a>(
     address: u32,
     number: Option<u8>,
     text: &[u8],
     scope: &Scope<'_>,
 ) -> Result<Command<'a>, LineError>
-    ensures { IfOk result IsBreakpoint }
+    ensures { result ≡ limits_in scope.now address number text.now }
 {
-    let (front, behind) = match cut_before(text, b"TIMES", b"TIMES") {
-        Some(parts) => parts,
-        None => (text, b"".as_slice()),
-    };
-    Ok(Command::SetBreakpoint(NewBreakpoint {
-        address,
-        number,
-        condition: read_if(front, scope)?,
-        times: read_times(behind)?,
-    }))
+    match word_place(text, b"TIMES", b"TIMES") {
+        Some(i) => read_parts(address, number, trimmed(&text[..i]), behind(text, i), scope),
+        None => read_parts(address, number, text, b"".as_slice(), scope),
+    }
 }
 
 /// The number of a breakpoint, if digits are one.
-pub fn breakpoint_number(digits: &[u8]) -> Option<u8> {
+pub fn breakpoint_number(digits: &[u8]) -> Option<u8>
+    ensures { result ≡ breakpoint_in digits.now }
+{
     match number(10, digits) {
         Some(number) if 1 <= number && number <= BREAKPOINTS as u64 => Some(number as u8),
         _ => None,
     }
 }
 
-/// Reads `$B`, `a$B`, `a$nB` and `0$nB`, with the limits behind them.
-pub fn read_breakpoint<'a>(
-    line: &Escaped<'_>,
+/// Reads the limits of a breakpoint whose address is known: 0 and a number clear one.
+fn read_placed<'a>(
+    address: u32,
+    number: Option<u8>,
     limits: &[u8],
     scope: &Scope<'_>,
 ) -> Result<Command<'a>, LineError>
-    ensures { IfOk result IsOfBreakpoint }
+    ensures { result ≡ placed scope.now address number limits.now }
 {
-    let number = breakpoint_number(line.digits);
-    if number.is_none() && !line.digits.is_empty() {
-        return Err(LineError::NoBreakpoint);
-    }
-    if line.before.is_empty() {
-        return match number {
-            None if limits.is_empty() => Ok(Command::ListStops),
-            _ => Err(LineError::NoAddress),
-        };
-    }
-    let address = read_address(line.before, scope)?;
     match number {
         Some(_) if address == 0 && !limits.is_empty() => Err(LineError::BehindCommand),
         Some(number) if address == 0 => Ok(Command::ClearBreakpoint(number)),
@@ -150,12 +238,43 @@ pub fn read_breakpoint<'a>(
     }
 }
 
-/// Reads what stands behind `.BREAK` for a breakpoint: its address, and its limits.
-pub fn read_break_at<'a>(text: &[u8], scope: &Scope<'_>) -> Result<Command<'a>, LineError>
-    ensures { IfOk result IsBreakpoint }
+/// Reads `$B`, `a$B`, `a$nB` and `0$nB`, with the limits after them.
+#[tactic(auto, unfolding(crate::specs::Lines::breakpoint_of))]
+pub fn read_breakpoint<'a>(
+    before: &[u8],
+    digits: &[u8],
+    limits: &[u8],
+    scope: &Scope<'_>,
+) -> Result<Command<'a>, LineError>
+    ensures { result ≡ breakpoint_of scope.now before.now digits.now limits.now }
 {
-    match cut_before(text, b"IF", b"TIMES") {
-        Some((place, limits)) => read_limits(read_address(place, scope)?, None, limits, scope),
-        None => read_limits(read_address(text, scope)?, None, b"".as_slice(), scope),
+    let number = breakpoint_number(digits);
+    if number.is_none() && !digits.is_empty() {
+        return Err(LineError::NoBreakpoint);
+    }
+    if before.is_empty() {
+        if number.is_none() && limits.is_empty() {
+            return Ok(Command::ListStops);
+        }
+        return Err(LineError::NoAddress);
+    }
+    let address = read_address(before, scope)?;
+    read_placed(address, number, limits, scope)
+}
+
+/// Reads what stands after `.BREAK` for a breakpoint: its address, and its limits.
+#[tactic(auto, unfolding(crate::specs::Lines::break_of))]
+pub fn read_break_at<'a>(text: &[u8], scope: &Scope<'_>) -> Result<Command<'a>, LineError>
+    ensures { result ≡ break_of scope.now text.now }
+{
+    match word_place(text, b"IF", b"TIMES") {
+        Some(i) => {
+            let address = read_address(trimmed(&text[..i]), scope)?;
+            read_limits(address, None, behind(text, i), scope)
+        }
+        None => {
+            let address = read_address(text, scope)?;
+            read_limits(address, None, b"".as_slice(), scope)
+        }
     }
 }

@@ -1,11 +1,15 @@
 //! The characters that a word holds.
+ghost use Rattle.std.specs.Prelude.{◌≡◌, ◌%◌, ◌+◌};
+ghost use Rattle.ddt_commands.specs.Characters.{ascii_codes, shown_character, sixbit_codes};
 
 use std::fmt;
 use word36::Word;
 
 /// The ASCII code in the lowest seven bits; a point for a character that does not print.
-fn ascii_code(bits: u64) -> u8 {
-    let code = (bits & 0o177) as u8;
+fn ascii_code(bits: u64) -> u8
+    ensures { result ≡ shown_character (bits % 128) }
+{
+    let code = (bits % 128) as u8;
     if code == b' ' || code.is_ascii_graphic() {
         code
     } else {
@@ -14,31 +18,37 @@ fn ascii_code(bits: u64) -> u8 {
 }
 
 /// The five ASCII characters of a word; a point for each that does not print.
-pub fn ascii_codes(word: Word) -> [u8; 5] {
+pub fn ascii_codes(word: Word) -> [u8; 5]
+    ensures { result ≡ ascii_codes word }
+{
     let bits = word.number();
     [
-        ascii_code(bits >> 29),
-        ascii_code(bits >> 22),
-        ascii_code(bits >> 15),
-        ascii_code(bits >> 8),
-        ascii_code(bits >> 1),
+        ascii_code(bits / (1 << 29)),
+        ascii_code(bits / (1 << 22)),
+        ascii_code(bits / (1 << 15)),
+        ascii_code(bits / (1 << 8)),
+        ascii_code(bits / 2),
     ]
 }
 
 /// The ASCII code of the SIXBIT character in the lowest six bits.
-fn sixbit_code(bits: u64) -> u8 {
-    (bits & 0o77) as u8 + b' '
+fn sixbit_code(bits: u64) -> u8
+    ensures { result ≡ bits % 64 + 32 }
+{
+    (bits % 64) as u8 + b' '
 }
 
 /// The six SIXBIT characters of a word, as ASCII codes.
-pub fn sixbit_codes(word: Word) -> [u8; 6] {
+pub fn sixbit_codes(word: Word) -> [u8; 6]
+    ensures { result ≡ sixbit_codes word }
+{
     let bits = word.number();
     [
-        sixbit_code(bits >> 30),
-        sixbit_code(bits >> 24),
-        sixbit_code(bits >> 18),
-        sixbit_code(bits >> 12),
-        sixbit_code(bits >> 6),
+        sixbit_code(bits / (1 << 30)),
+        sixbit_code(bits / (1 << 24)),
+        sixbit_code(bits / (1 << 18)),
+        sixbit_code(bits / (1 << 12)),
+        sixbit_code(bits / (1 << 6)),
         sixbit_code(bits),
     ]
 }
@@ -51,6 +61,12 @@ pub struct Codes<'a> {
 }
 
 impl fmt::Display for Codes<'_> {
+    ghost use Rattle.std.specs.Char.{encode_utf8};
+    ghost use Rattle.std.specs.List.{flat_map};
+    ghost use Rattle.std.specs.Prelude.{Some};
+
+    ghost output = { λ c. Some (flat_map encode_utf8 c.codes.now) };
+
     fn fmt<W: fmt::Write>(&self, f: &mut fmt::Formatter<W>) -> fmt::Result {
         for code in self.codes {
             f.write_char(char::from(*code))?;

@@ -1,4 +1,6 @@
 //! The commands of the debugger.
+ghost use Rattle.std.specs.Prelude.{◌≡◌};
+ghost use Rattle.ddt_commands.specs.Lines.{retyped_in};
 
 use ddt_breakpoints::Condition;
 use word36::Word;
@@ -35,7 +37,9 @@ pub enum Retype {
 
 impl Retype {
     /// The mode in which the last quantity is shown.
-    pub fn mode(self) -> OutputMode {
+    pub fn mode(self) -> OutputMode
+        ensures { result ≡ retyped_in self }
+    {
         match self {
             Retype::Octal => OutputMode::Octal,
             Retype::Symbolic => OutputMode::Symbolic,

@@ -1,9 +1,9 @@
 //! Dot commands: those that begin with a point, as `.JOBS`.
-ghost use Rattle.std.specs.Prelude.{◌≡◌, ◌≤◌, ◌^◌, codes, true, false, if◌then◌else◌, Ok, Err, IfOk};
+ghost use Rattle.std.specs.Prelude.{◌≡◌, ◌≤◌, if◌then◌else◌, Ok, Err, IfOk, Some};
 ghost use Rattle.ddt_commands.specs.Numbers.{decimal_in};
-ghost use Rattle.ddt_commands.specs.declared.dot_commands.LoneCommand.{LoneCommand as LoneWord};
-ghost use Rattle.ddt_commands.specs.DotLines.{IsBackTo, IsBackWrite, IsBreakpoint, IsExamine, IsWatch, SaysDo, SaysHelp, SaysLock, SaysRecord};
-ghost use Rattle.ddt_commands.specs.DotLines.{SaysSave, SaysType, count_in, dot_of, is_name, is_none_left, job_in, lone_of, with_count};
+ghost use Rattle.ddt_commands.specs.DotLines.{SaysBreak, SaysDo, SaysDot, SaysLock, SaysRecord, SaysSave, SaysType, back_of, count_in, dot_of};
+ghost use Rattle.ddt_commands.specs.DotLines.{examine_of, job_in, lone_of};
+ghost use Rattle.ddt_commands.specs.Texts.{behind_blanks, first_word};
 
 use crate::breakpoints::read_break_at;
 use crate::commands::Command;
@@ -158,61 +158,50 @@ fn small_count(text: &[u8], most: u32, default: u32) -> Result<u32, LineError>
 }
 
 /// Reads `.TYPE line text`, whose line is a decimal number.
-fn read_type<'a>(line: &[u8], typed: &'a [u8]) -> Result<Command<'a>, LineError>
-    ensures { SaysType (decimal_in line.now) typed.now result }
+fn read_type(text: &[u8]) -> Result<Command<'_>, LineError>
+    ensures { SaysType (decimal_in (first_word text.now)) (behind_blanks text.now) result }
 {
+    let (line, typed) = cut_word(text);
     match pointed_decimal(line) {
         Some(number) if number < u64::from(LINES) => Ok(Command::Type(number as u8, typed)),
         _ => Err(LineError::NoLine),
     }
 }
 
-/// Reads `.BACK n`, `.BACK TO a` and `.BACK WRITE a`: `first` is the first word of the text, and `behind` what stands behind it.
-fn read_back<'a>(
-    text: &[u8],
-    first: &[u8],
-    behind: &[u8],
-    scope: &Scope<'_>,
-) -> Result<Command<'a>, LineError>
-    ensures to { is_name (codes "TO") first.now ≡ true → IfOk result IsBackTo }
-    ensures write { is_name (codes "TO") first.now ≡ false → is_name (codes "WRITE") first.now ≡ true → IfOk result IsBackWrite }
-    ensures count { is_name (codes "TO") first.now ≡ false → is_name (codes "WRITE") first.now ≡ false
-        → result ≡ with_count Command.Back (count_in 0 (2 ^ 39) 1 text.now) }
+/// Reads `.BACK n`, `.BACK TO a` and `.BACK WRITE a`.
+fn read_back<'a>(text: &[u8], scope: &Scope<'_>) -> Result<Command<'a>, LineError>
+    ensures { result ≡ back_of scope.now text.now }
 {
+    let (first, place) = cut_word(text);
     if is_name(first, b"TO") {
-        Ok(Command::BackTo(read_address(behind, scope)?))
-    } else if is_name(first, b"WRITE") {
-        Ok(Command::BackWrite(read_address(behind, scope)?))
-    } else {
-        Ok(Command::Back(count(text, 0, MOST_BACK, 1)?))
+        let address = read_address(place, scope)?;
+        return Ok(Command::BackTo(address));
+    }
+    if is_name(first, b"WRITE") {
+        let address = read_address(place, scope)?;
+        return Ok(Command::BackWrite(address));
+    }
+    match count(text, 0, MOST_BACK, 1) {
+        Ok(steps) => Ok(Command::Back(steps)),
+        Err(error) => Err(error),
     }
 }
 
-/// Reads `.BREAK a` with its limits, `.BREAK LOCK name`, `.BREAK GRANT` and `.BREAK CIRCLE`: `first` is the first word of the
-/// text, and `behind` what stands behind it.
-fn read_break<'a>(
-    text: &[u8],
-    first: &[u8],
-    behind: &'a [u8],
-    scope: &Scope<'_>,
-) -> Result<Command<'a>, LineError>
-    ensures grant { is_name (codes "GRANT") first.now ≡ true → result ≡ Ok Command.BreakGrant }
-    ensures circle { is_name (codes "GRANT") first.now ≡ false → is_name (codes "CIRCLE") first.now ≡ true
-        → result ≡ Ok Command.BreakCircle }
-    ensures lock { is_name (codes "GRANT") first.now ≡ false → is_name (codes "CIRCLE") first.now ≡ false
-        → is_name (codes "LOCK") first.now ≡ true → SaysLock behind.now result }
-    ensures address { is_name (codes "GRANT") first.now ≡ false → is_name (codes "CIRCLE") first.now ≡ false
-        → is_name (codes "LOCK") first.now ≡ false → IfOk result IsBreakpoint }
+/// Reads `.BREAK a` with its limits, `.BREAK LOCK name`, `.BREAK GRANT` and `.BREAK CIRCLE`.
+fn read_break<'a>(text: &'a [u8], scope: &Scope<'_>) -> Result<Command<'a>, LineError>
+    ensures { SaysBreak scope.now text.now result }
 {
+    let (first, name) = cut_word(text);
     if is_name(first, b"GRANT") {
-        Ok(Command::BreakGrant)
-    } else if is_name(first, b"CIRCLE") {
-        Ok(Command::BreakCircle)
-    } else if is_name(first, b"LOCK") {
-        read_lock(behind)
-    } else {
-        read_break_at(text, scope)
+        return Ok(Command::BreakGrant);
     }
+    if is_name(first, b"CIRCLE") {
+        return Ok(Command::BreakCircle);
+    }
+    if is_name(first, b"LOCK") {
+        return read_lock(name);
+    }
+    read_break_at(text, scope)
 }
 
 /// Reads the name behind `.BREAK LOCK`.
@@ -228,10 +217,19 @@ fn read_lock(name: &[u8]) -> Result<Command<'_>, LineError>
 
 /// Reads `.EX a-b` and `.EX a`.
 fn read_examine<'a>(text: &[u8], scope: &Scope<'_>) -> Result<Command<'a>, LineError>
-    ensures { IfOk result IsExamine }
+    ensures { result ≡ examine_of scope.now text.now }
 {
-    let (first, last) = cut_at(text, b'-').unwrap_or((text, text));
-    Ok(Command::Examine(read_address(first, scope)?, read_address(last, scope)?))
+    match cut_at(text, b'-') {
+        Some((first, last)) => {
+            let first = read_address(first, scope)?;
+            let last = read_address(last, scope)?;
+            Ok(Command::Examine(first, last))
+        }
+        None => {
+            let first = read_address(text, scope)?;
+            Ok(Command::Examine(first, first))
+        }
+    }
 }
 
 /// The command of a dot command without an argument.
@@ -275,40 +273,19 @@ fn read_job<'a>(text: &[u8]) -> Result<Command<'a>, LineError>
     }
 }
 
-/// Reads a dot command by its word: `rest` is what stands behind that, `first` the first word of it, and `behind` what stands
-/// behind that one.
+/// Reads a dot command by its word: `rest` is the text after that.
 fn read_by_word<'a>(
     command: DotCommand,
     rest: &'a [u8],
-    first: &[u8],
-    behind: &'a [u8],
     scope: &Scope<'_>,
 ) -> Result<Command<'a>, LineError>
-    ensures lone { (w : LoneWord) → command ≡ DotCommand.Lone w
-        → result ≡ (if is_none_left rest.now then Ok (lone_of w) else Err LineError.BehindCommand) }
-    ensures back_to { command ≡ DotCommand.Back → is_name (codes "TO") first.now ≡ true → IfOk result IsBackTo }
-    ensures back_write { command ≡ DotCommand.Back → is_name (codes "TO") first.now ≡ false → is_name (codes "WRITE") first.now ≡ true
-        → IfOk result IsBackWrite }
-    ensures back { command ≡ DotCommand.Back → is_name (codes "TO") first.now ≡ false → is_name (codes "WRITE") first.now ≡ false
-        → result ≡ with_count Command.Back (count_in 0 (2 ^ 39) 1 rest.now) }
-    ensures examine { command ≡ DotCommand.Ex → IfOk result IsExamine }
-    ensures history { command ≡ DotCommand.History → result ≡ with_count Command.History (count_in 1 1000 10 rest.now) }
-    ensures run { command ≡ DotCommand.Run → result ≡ with_count Command.Run (count_in 1 1000000000 10000000 rest.now) }
-    ensures step { command ≡ DotCommand.Step → result ≡ with_count Command.Step (count_in 1 1000000000 1 rest.now) }
-    ensures tick { command ≡ DotCommand.Tick → result ≡ with_count Command.Tick (count_in 1 6000 1 rest.now) }
-    ensures job { command ≡ DotCommand.Job → result ≡ job_in (decimal_in rest.now) }
-    ensures types { command ≡ DotCommand.Type → SaysType (decimal_in first.now) behind.now result }
-    ensures watch { command ≡ DotCommand.Watch → IfOk result IsWatch }
-    ensures saves { command ≡ DotCommand.Save → SaysSave rest.now result }
-    ensures records { command ≡ DotCommand.Record → SaysRecord rest.now result }
-    ensures obeys { command ≡ DotCommand.Do → SaysDo rest.now result }
-    ensures help { command ≡ DotCommand.Help → SaysHelp rest.now result }
+    ensures { SaysDot scope.now rest.now (Some command) result }
 {
     match command {
         DotCommand::Lone(_) if !rest.is_empty() => Err(LineError::BehindCommand),
         DotCommand::Lone(word) => Ok(command_of(word)),
-        DotCommand::Back => read_back(rest, first, behind, scope),
-        DotCommand::Break => read_break(rest, first, behind, scope),
+        DotCommand::Back => read_back(rest, scope),
+        DotCommand::Break => read_break(rest, scope),
         DotCommand::Ex => read_examine(rest, scope),
         DotCommand::Help => Ok(Command::Help(rest)),
         DotCommand::History => Ok(Command::History(small_count(rest, MOST_HISTORY, 10)?)),
@@ -316,18 +293,22 @@ fn read_by_word<'a>(
         DotCommand::Step => Ok(Command::Step(small_count(rest, MOST_STEPS, 1)?)),
         DotCommand::Tick => Ok(Command::Tick(small_count(rest, MOST_TICKS, 1)?)),
         DotCommand::Job => read_job(rest),
-        DotCommand::Type => read_type(first, behind),
-        DotCommand::Watch => Ok(Command::Watch(read_address(rest, scope)?)),
+        DotCommand::Type => read_type(rest),
+        DotCommand::Watch => {
+            let address = read_address(rest, scope)?;
+            Ok(Command::Watch(address))
+        }
         DotCommand::Do | DotCommand::Record | DotCommand::Save => read_file_command(command, rest),
     }
 }
 
 /// Reads a dot command, whose point is passed already, or tells what is wrong with it.
-pub fn read_dot_command<'a>(text: &'a [u8], scope: &Scope<'_>) -> Result<Command<'a>, LineError> {
+pub fn read_dot_command<'a>(text: &'a [u8], scope: &Scope<'_>) -> Result<Command<'a>, LineError>
+    ensures { SaysDot scope.now (behind_blanks text.now) (dot_of (first_word text.now)) result }
+{
     let (word, rest) = cut_word(text);
-    let (first, behind) = cut_word(rest);
     match dot_command(word) {
-        Some(command) => read_by_word(command, rest, first, behind, scope),
+        Some(command) => read_by_word(command, rest, scope),
         None => Err(LineError::NoCommand),
     }
 }

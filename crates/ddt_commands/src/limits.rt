@@ -1,5 +1,8 @@
 //! The limits of values, which are those of the assemblers.
 
+ghost use Rattle.std.specs.Prelude.{◌≡◌, ◌<◌, IfOk};
+ghost use Rattle.ddt_commands.specs.Values.{bits_in, size_of};
+
 use crate::line_errors::LineError;
 
 /// What a number has to be.
@@ -19,7 +22,10 @@ pub enum Limit {
 
 impl Limit {
     /// The bits of a number that is within the limit, of which a negative one has as many as a word or half of one has.
-    pub fn bits(self, number: i64) -> Result<u64, LineError> {
+    pub fn bits(self, number: i64) -> Result<u64, LineError>
+        ensures value { result ≡ bits_in self number }
+        ensures below { IfOk result (λ bits. bits < size_of self) }
+    {
         let (least, most, size) = match self {
             Limit::Word => (-(1 << 35), (1 << 36) - 1, 1 << 36),
             Limit::Half | Limit::Address => (-0o777_777, 0o777_777, 0o1_000_000),

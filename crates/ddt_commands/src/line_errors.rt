@@ -119,14 +119,20 @@ impl LineError {
     /// Its text, where that has no number.
     fn text(&self) -> &'static str {
         match *self {
-            LineError::NoValue => "? a value is wanted",
+            LineError::NoValue => {
+                "? a value is wanted, as in 5 or LOOP+1; a text is typed as in \"/ABC/, a search as in 5$W"
+            }
             LineError::NoDecimal =>
                 "? a decimal number has digits from 0 to 9, and a point behind them",
             LineError::Beyond(limit) => limit.text(),
-            LineError::NoOctal => "? an octal number has digits from 0 to 7: 20. is 20 in decimal",
+            LineError::NoOctal => {
+                "? an octal number has digits from 0 to 7: 20. is 20 in decimal, and there is no floating point"
+            }
             LineError::NoEscape => "? there is no such command of $: .HELP lists them",
             LineError::NoParenthesis => "? a closing parenthesis is wanted",
-            LineError::BehindValue => "? something stands behind the value",
+            LineError::BehindValue => {
+                "? nothing may stand behind a value: .EX a-b shows words, a,,b is one of two halves, ' divides"
+            }
             LineError::NoLock => "? a lock is named as in .BREAK LOCK A, or by its code as #17",
             LineError::NoFile => "? the name of a file is wanted",
             LineError::NoCommand => "? no such command: .HELP lists them",

@@ -1,18 +1,20 @@
 //! Whole lines, each read as a command.
-ghost use Rattle.std.specs.Prelude.{◌≡◌, ◌≢◌, ◌≤◌, ◌∷◌, ◌==◌, ◌||◌, [], true, false, Ok, Err, IfOk, IfSome, length, slice_index};
+ghost use Rattle.std.specs.Prelude.{◌≡◌, IfSome};
+ghost use Rattle.ddt_commands.specs.DotLines.{SaysLine, SaysText};
+ghost use Rattle.ddt_commands.specs.Lines.{by_last, by_letter, by_value, change_in, change_of, command_in, cut_in, deposit, escaped_of, evaluate, execute_of};
+ghost use Rattle.ddt_commands.specs.Lines.{is_change, is_mask, is_number, is_of_mode, is_question, is_shown_breakpoint, kind_of, masked};
+ghost use Rattle.ddt_commands.specs.Lines.{mode_of, open_as, open_of, or_deposit, other_of, parts_of, proceed_in, quoted, radix_in, ranged, refused_by};
+ghost use Rattle.ddt_commands.specs.Lines.{execute_in, plain_command, search_of, text_mode_in, value_line, with_digits};
 ghost use Rattle.ddt_commands.specs.Numbers.{number_of};
-ghost use Rattle.ddt_commands.specs.Lines.{IsDeposit, IsExecuted, IsGoAt, IsOfBreakpoint, IsSearch, execute_in, is_doubled, is_number, is_of_mode};
-ghost use Rattle.ddt_commands.specs.Lines.{is_other, is_search, kind_of, mode_of, proceed_in, radix_in, text_mode_in};
 
-use crate::breakpoints::{breakpoint_number, cut_limits, read_breakpoint};
+use crate::breakpoints::{breakpoint_number, limits_place, read_breakpoint, read_limited};
 use crate::commands::{Command, Opening, OutputMode, Retype, Search, SearchKind};
 use crate::dot_commands::read_dot_command;
 use crate::escaped::{Escaped, cut_at_escape};
 use crate::line_errors::LineError;
 use crate::numbers::{LEAST_RADIX, MOST_RADIX, number, times};
-use crate::reader::{cut_at, is_escape};
+use crate::reader::{behind, cut_at, is_escape, is_name, trimmed};
 use crate::values::{Scope, read_address, read_value};
-use word36::Word;
 
 /// Whether a text is a number of times, and no instruction: it begins with a digit, and has no comma.
 fn is_number(text: &[u8]) -> bool
@@ -40,10 +42,7 @@ fn read_proceed<'a>(before: &[u8]) -> Result<Command<'a>, LineError>
 
 /// Reads `n$X`, `$$X` and `instr$X`; n is 1 where it is left out. An instruction has an operation: its left half is not 0.
 fn read_execute<'a>(before: &[u8], scope: &Scope<'_>) -> Result<Command<'a>, LineError>
-    ensures number { (length before.now == 0) || (is_doubled before.now || is_number before.now) ≡ true
-        → result ≡ execute_in before.now }
-    ensures instruction { (length before.now == 0) || (is_doubled before.now || is_number before.now) ≡ false
-        → IfOk result IsExecuted }
+    ensures { result ≡ execute_of scope.now before.now }
 {
     match before {
         [] => return Ok(Command::Execute(1)),
@@ -64,7 +63,7 @@ fn read_execute<'a>(before: &[u8], scope: &Scope<'_>) -> Result<Command<'a>, Lin
     }
 }
 
-/// How a letter behind `$` searches: `$W`, `$N` or `$E`.
+/// How a letter after `$` searches: `$W`, `$N` or `$E`.
 fn search_kind(letter: u8) -> SearchKind
     ensures { result ≡ kind_of letter }
 {
@@ -77,17 +76,17 @@ fn search_kind(letter: u8) -> SearchKind
 
 /// Reads `value<mask>` before a search.
 fn read_masked(front: &[u8], kind: SearchKind, scope: &Scope<'_>) -> Result<Search, LineError>
-    ensures { IfOk result (λ s. s.kind ≡ kind) }
+    ensures { result ≡ masked scope.now kind front.now }
 {
     let Some((value, mask)) = cut_at(front, b'<') else {
         return Err(LineError::NoMask);
     };
-    let mask = Some(read_value(mask, scope)?);
+    let mask = read_value(mask, scope)?;
     let value = read_value(value, scope)?;
     Ok(Search {
         kind,
         value,
-        mask,
+        mask: Some(mask),
         range: None,
     })
 }
@@ -99,44 +98,53 @@ fn read_ranged(
     kind: SearchKind,
     scope: &Scope<'_>,
 ) -> Result<Search, LineError>
-    ensures { IfOk result (λ s. s.kind ≡ kind) }
+    ensures { result ≡ ranged scope.now kind front.now value.now }
 {
     let Some((first, last)) = cut_at(front, b'<') else {
         return Err(LineError::NoRange);
     };
-    let range = Some((read_address(first, scope)?, read_address(last, scope)?));
+    let first = read_address(first, scope)?;
+    let last = read_address(last, scope)?;
     let value = read_value(value, scope)?;
     Ok(Search {
         kind,
         value,
         mask: None,
-        range,
+        range: Some((first, last)),
     })
 }
 
 /// Reads a search, `value$W`, `value<mask>$W` or `a<b>value$W`; so with `$N` and `$E`.
-fn read_search<'a>(line: &Escaped<'_>, scope: &Scope<'_>) -> Result<Command<'a>, LineError>
-    ensures { IfOk result (IsSearch (kind_of line.now.letter)) }
+#[tactic(auto, unfolding(crate::specs::Lines::search_of))]
+fn read_search(before: &[u8], kind: SearchKind, scope: &Scope<'_>) -> Result<Search, LineError>
+    ensures { result ≡ search_of scope.now kind before.now }
 {
-    let kind = search_kind(line.letter);
-    let search = match cut_at(line.before, b'>') {
-        Some((front, [])) => read_masked(front, kind, scope)?,
-        Some((front, value)) => read_ranged(front, value, kind, scope)?,
-        None => Search {
-            kind,
-            value: read_value(line.before, scope)?,
-            mask: None,
-            range: None,
-        },
-    };
-    Ok(Command::Search(search))
+    match cut_at(before, b'>') {
+        Some((front, value)) => {
+            if value.is_empty() {
+                read_masked(front, kind, scope)
+            } else {
+                read_ranged(front, value, kind, scope)
+            }
+        }
+        None => {
+            let value = read_value(before, scope)?;
+            Ok(Search {
+                kind,
+                value,
+                mask: None,
+                range: None,
+            })
+        }
+    }
 }
 
 /// Reads a value to deposit.
 fn read_deposit<'a>(text: &[u8], scope: &Scope<'_>) -> Result<Command<'a>, LineError>
-    ensures { IfOk result IsDeposit }
+    ensures { result ≡ deposit scope.now text.now }
 {
-    Ok(Command::Deposit(read_value(text, scope)?))
+    let word = read_value(text, scope)?;
+    Ok(Command::Deposit(word))
 }
 
 /// The mode of a letter after `$`: `$S`, and `$D` and `$O` as DDT has them. There is no floating point, so
@@ -188,94 +196,136 @@ fn is_of_mode(before: &[u8]) -> bool
     }
 }
 
-/// Reads a command of `$`, or a value where its letter is that of no command.
-fn read_escaped<'a>(line: &Escaped<'_>, scope: &Scope<'_>) -> Result<Command<'a>, LineError>
-    ensures mode { length line.now.digits.now ≡ 0 → is_of_mode line.now.before.now ≡ true
-        → IfSome (mode_of line.now.letter) (λ mode. result ≡ Ok (Command.SetMode mode)) }
-    ensures addresses { length line.now.digits.now ≡ 0 → is_of_mode line.now.before.now ≡ true → line.now.letter ≡ 65
-        → result ≡ Ok (Command.SetAddresses true) }
-    ensures labels { length line.now.digits.now ≡ 0 → is_of_mode line.now.before.now ≡ true → line.now.letter ≡ 82
-        → result ≡ Ok (Command.SetAddresses false) }
-    ensures radix { length line.now.digits.now ≢ 0 → is_of_mode line.now.before.now ≡ true → line.now.letter ≡ 82
-        → result ≡ radix_in (number_of 10 line.now.digits.now) }
-    ensures text { length line.now.digits.now ≢ 0 → is_of_mode line.now.before.now ≡ true → line.now.letter ≡ 84
-        → result ≡ text_mode_in (number_of 10 line.now.digits.now) }
-    ensures breakpoint { line.now.letter ≡ 66 → IfOk result IsOfBreakpoint }
-    ensures go { length line.now.digits.now ≡ 0 → length line.now.before.now ≡ 0 → line.now.letter ≡ 71 → result ≡ Ok Command.Go }
-    ensures go_at { length line.now.digits.now ≡ 0 → length line.now.before.now ≢ 0 → line.now.letter ≡ 71 → IfOk result IsGoAt }
-    ensures proceed { length line.now.digits.now ≡ 0 → line.now.letter ≡ 80 → result ≡ proceed_in line.now.before.now }
-    ensures execute { length line.now.digits.now ≡ 0 → line.now.letter ≡ 88
-        → (length line.now.before.now == 0) || (is_doubled line.now.before.now || is_number line.now.before.now) ≡ true
-        → result ≡ execute_in line.now.before.now }
-    ensures instruction { length line.now.digits.now ≡ 0 → line.now.letter ≡ 88
-        → (length line.now.before.now == 0) || (is_doubled line.now.before.now || is_number line.now.before.now) ≡ false
-        → IfOk result IsExecuted }
-    ensures search { length line.now.digits.now ≡ 0 → is_search line.now.letter ≡ true → IfOk result (IsSearch (kind_of line.now.letter)) }
-    ensures symbols { line.now.letter ≡ 75 → result ≡ Err LineError.NoSymbols }
-    ensures punch { line.now.letter ≡ 89 → result ≡ Err LineError.NoPunch }
-    ensures filling { line.now.letter ≡ 90 → result ≡ Err LineError.NoFilling }
-    ensures bytes { length line.now.digits.now ≢ 0 → is_of_mode line.now.before.now ≡ true → line.now.letter ≡ 79 → result ≡ Err LineError.NoBytes }
-    ensures nothing { length line.now.digits.now ≢ 0 → (line.now.letter == 71) || ((line.now.letter == 80) || ((line.now.letter == 88) || is_search line.now.letter)) ≡ true
-        → result ≡ Err LineError.NoEscape }
-    ensures value { is_other line.now.letter ≡ true → IfOk result IsDeposit }
+/// Refuses a line whose letter has digits before it that it does not take, or is not here; or reads it as a value to deposit.
+fn read_or_refuse<'a>(
+    text: &[u8],
+    is_mode: bool,
+    letter: u8,
+    scope: &Scope<'_>,
+) -> Result<Command<'a>, LineError>
+    ensures { result ≡ or_deposit scope.now text.now (refused_by is_mode letter) }
 {
-    let is_plain = line.digits.is_empty();
-    let is_mode = is_of_mode(line.before);
-    if is_mode && is_plain {
-        if let Some(mode) = mode_of(line.letter) {
-            return Ok(Command::SetMode(mode));
-        }
-    }
-    match line.letter {
-        b'A' | b'R' if is_mode && is_plain => Ok(Command::SetAddresses(line.letter == b'A')),
-        b'R' if is_mode => read_radix(line.digits),
-        b'T' if is_mode => read_text_mode(line.digits),
-        b'B' => read_breakpoint(line, b"".as_slice(), scope),
-        b'G' if is_plain && line.before.is_empty() => Ok(Command::Go),
-        b'G' if is_plain => Ok(Command::GoAt(read_address(line.before, scope)?)),
-        b'P' if is_plain => read_proceed(line.before),
-        b'X' if is_plain => read_execute(line.before, scope),
-        b'W' | b'N' | b'E' if is_plain => read_search(line, scope),
+    match letter {
         b'G' | b'P' | b'X' | b'W' | b'N' | b'E' => Err(LineError::NoEscape),
         b'K' => Err(LineError::NoSymbols),
         b'O' if is_mode => Err(LineError::NoBytes),
         b'Y' => Err(LineError::NoPunch),
         b'Z' => Err(LineError::NoFilling),
-        _ => read_deposit(line.text, scope),
+        _ => read_deposit(text, scope),
+    }
+}
+
+/// Reads a command of `$` with no digits after it, which sets no mode; or a value if its letter is that of no command.
+fn read_by_letter<'a>(line: &Escaped<'_>, scope: &Scope<'_>) -> Result<Command<'a>, LineError>
+    ensures { result ≡ by_letter scope.now (cut_in line.now) line.now.text.now }
+{
+    match line.letter {
+        b'G' if line.before.is_empty() => Ok(Command::Go),
+        b'G' => {
+            let address = read_address(line.before, scope)?;
+            Ok(Command::GoAt(address))
+        }
+        b'P' => read_proceed(line.before),
+        b'X' => read_execute(line.before, scope),
+        b'W' | b'N' | b'E' => {
+            let search = read_search(line.before, search_kind(line.letter), scope)?;
+            Ok(Command::Search(search))
+        }
+        letter => read_or_refuse(line.text, is_of_mode(line.before), letter, scope),
+    }
+}
+
+/// Reads a command of `$` with no digits after it.
+fn read_plain<'a>(line: &Escaped<'_>, scope: &Scope<'_>) -> Result<Command<'a>, LineError>
+    ensures { result ≡ plain_command scope.now (cut_in line.now) line.now.text.now }
+{
+    if !is_of_mode(line.before) {
+        return read_by_letter(line, scope);
+    }
+    match (mode_of(line.letter), line.letter) {
+        (Some(mode), _) => Ok(Command::SetMode(mode)),
+        (None, b'A') => Ok(Command::SetAddresses(true)),
+        (None, b'R') => Ok(Command::SetAddresses(false)),
+        _ => read_by_letter(line, scope),
+    }
+}
+
+/// Reads a command of `$` with digits after it.
+fn read_with_digits<'a>(line: &Escaped<'_>, scope: &Scope<'_>) -> Result<Command<'a>, LineError>
+    ensures { result ≡ with_digits scope.now (cut_in line.now) line.now.text.now }
+{
+    let is_mode = is_of_mode(line.before);
+    match line.letter {
+        b'R' if is_mode => read_radix(line.digits),
+        b'T' if is_mode => read_text_mode(line.digits),
+        letter => read_or_refuse(line.text, is_mode, letter, scope),
+    }
+}
+
+/// Reads a command of `$`, or a value if its letter is that of no command.
+#[tactic(auto, unfolding(crate::specs::Lines::escaped_of))]
+fn read_escaped<'a>(line: &Escaped<'_>, scope: &Scope<'_>) -> Result<Command<'a>, LineError>
+    ensures { result ≡ escaped_of scope.now (cut_in line.now) line.now.text.now }
+{
+    if line.letter == b'B' {
+        return read_breakpoint(line.before, line.digits, b"".as_slice(), scope);
+    }
+    if line.digits.is_empty() {
+        read_plain(line, scope)
+    } else {
+        read_with_digits(line, scope)
+    }
+}
+
+/// Whether a command of `$` is `$M`, the mask of searches.
+fn is_mask(line: Option<Escaped<'_>>) -> bool
+    ensures { result ≡ is_mask (parts_of line.entry) }
+{
+    match line {
+        Some(line) => line.before.is_empty() && line.letter == b'M' && line.digits.is_empty(),
+        None => false,
     }
 }
 
 /// Reads `a/`, `$M/` or `$nB/`.
-fn read_open<'a>(text: &[u8], scope: &Scope<'_>) -> Result<Command<'a>, LineError> {
-    match cut_at_escape(text) {
-        Some(line) if line.before.is_empty() && line.letter == b'M' && line.digits.is_empty() => {
-            Ok(Command::OpenMask)
-        }
+#[tactic(auto, unfolding(crate::specs::Lines::open_of))]
+fn read_open<'a>(text: &[u8], scope: &Scope<'_>) -> Result<Command<'a>, LineError>
+    ensures { result ≡ open_of scope.now text.now }
+{
+    let line = cut_at_escape(text);
+    if is_mask(line) {
+        return Ok(Command::OpenMask);
+    }
+    match line {
         Some(line) if line.before.is_empty() && line.letter == b'B' => {
             match breakpoint_number(line.digits) {
                 Some(number) => Ok(Command::ShowBreakpoint(number)),
                 None => Err(LineError::NoBreakpoint),
             }
         }
-        _ => Ok(Command::Open(read_address(text, scope)?)),
+        _ => {
+            let address = read_address(text, scope)?;
+            Ok(Command::Open(address))
+        }
     }
 }
 
-/// Reads `$M/ value`, whose value stands behind the `/`, or `a/ value`.
+/// Reads `$M/ value`, whose value stands after the `/`, or `a/ value`.
+#[tactic(auto, unfolding(crate::specs::Lines::change_of))]
 fn read_change_of<'a>(
     place: &[u8],
     value: &[u8],
     scope: &Scope<'_>,
-) -> Result<Command<'a>, LineError> {
-    match cut_at_escape(place) {
-        Some(line) if line.before.is_empty() && line.letter == b'M' && line.digits.is_empty() => {
-            Ok(Command::ChangeMask(read_value(value, scope)?))
-        }
-        _ => {
-            let address = read_address(place, scope)?;
-            Ok(Command::Change(address, read_value(value, scope)?))
-        }
+) -> Result<Command<'a>, LineError>
+    ensures { result ≡ change_of scope.now place.now value.now }
+{
+    if is_mask(cut_at_escape(place)) {
+        let word = read_value(value, scope)?;
+        return Ok(Command::ChangeMask(word));
     }
+    let address = read_address(place, scope)?;
+    let word = read_value(value, scope)?;
+    Ok(Command::Change(address, word))
 }
 
 /// Reads `a[`, `a]` or `a!`.
@@ -283,21 +333,25 @@ fn read_opening<'a>(
     text: &[u8],
     opening: Opening,
     scope: &Scope<'_>,
-) -> Result<Command<'a>, LineError> {
-    Ok(Command::OpenAs(read_address(text, scope)?, opening))
+) -> Result<Command<'a>, LineError>
+    ensures { result ≡ open_as scope.now text.now opening }
+{
+    let address = read_address(text, scope)?;
+    Ok(Command::OpenAs(address, opening))
 }
 
 /// Reads `value=`, `value_` or `value;`.
-fn read_shown<'a>(
-    text: &[u8],
-    retype: Retype,
-    scope: &Scope<'_>,
-) -> Result<Command<'a>, LineError> {
-    Ok(Command::Evaluate(read_value(text, scope)?, retype))
+fn read_shown<'a>(text: &[u8], retype: Retype, scope: &Scope<'_>) -> Result<Command<'a>, LineError>
+    ensures { result ≡ evaluate scope.now text.now retype }
+{
+    let word = read_value(text, scope)?;
+    Ok(Command::Evaluate(word, retype))
 }
 
 /// Reads `a/ value`, if the line has that form: no quotation mark is before the first `/`.
-fn read_change<'a>(text: &[u8], scope: &Scope<'_>) -> Option<Result<Command<'a>, LineError>> {
+fn read_change<'a>(text: &[u8], scope: &Scope<'_>) -> Option<Result<Command<'a>, LineError>>
+    ensures { result ≡ change_in scope.now text.now }
+{
     let (address, value) = cut_at(text, b'/')?;
     if value.is_empty() || cut_at(address, b'"').is_some() {
         return None;
@@ -306,33 +360,42 @@ fn read_change<'a>(text: &[u8], scope: &Scope<'_>) -> Option<Result<Command<'a>,
 }
 
 /// Reads a line with a text in quotation marks, if it is a value to deposit, or `a/ value`: the text may have any character.
-fn read_quoted<'a>(text: &[u8], scope: &Scope<'_>) -> Option<Command<'a>> {
+fn read_quoted<'a>(text: &[u8], scope: &Scope<'_>) -> Option<Command<'a>>
+    ensures { result ≡ quoted scope.now text.now }
+{
     cut_at(text, b'"')?;
-    match (read_value(text, scope), read_change(text, scope)) {
-        (Ok(word), _) => Some(Command::Deposit(word)),
-        (Err(_), Some(Ok(change))) => Some(change),
-        _ => None,
+    match read_value(text, scope) {
+        Ok(word) => Some(Command::Deposit(word)),
+        Err(_) => match read_change(text, scope) {
+            Some(Ok(change)) => Some(change),
+            _ => None,
+        },
     }
 }
 
 /// Reads `a/ value`, a command of `$`, or a value to deposit.
-fn read_other<'a>(text: &[u8], scope: &Scope<'_>) -> Result<Command<'a>, LineError> {
-    match (read_change(text, scope), cut_at_escape(text)) {
-        (Some(Ok(change)), _) => Ok(change),
-        (_, Some(line)) => read_escaped(&line, scope),
-        (Some(change), None) => change,
-        (None, None) => read_deposit(text, scope),
+#[tactic(auto, unfolding(crate::specs::Lines::other_of))]
+fn read_other<'a>(text: &[u8], scope: &Scope<'_>) -> Result<Command<'a>, LineError>
+    ensures { result ≡ other_of scope.now text.now }
+{
+    let change = read_change(text, scope);
+    if let Some(Ok(change)) = change {
+        return Ok(change);
+    }
+    match cut_at_escape(text) {
+        Some(line) => read_escaped(&line, scope),
+        None => match change {
+            Some(change) => change,
+            None => read_deposit(text, scope),
+        },
     }
 }
 
-/// Reads a breakpoint with limits, `a/` and the like, `value=` and the like, a command of `$`, or a value to deposit.
-fn read_value_line<'a>(text: &[u8], scope: &Scope<'_>) -> Result<Command<'a>, LineError> {
-    if let Some((line, limits)) = cut_limits(text) {
-        return read_breakpoint(&line, limits, scope);
-    }
-    if let Some(command) = read_quoted(text, scope) {
-        return Ok(command);
-    }
+/// Reads `a/` and the like, `value=` and the like, by the last character; a command of `$`; or a value to deposit.
+#[tactic(auto, unfolding(crate::specs::Lines::by_last))]
+fn read_by_last<'a>(text: &[u8], scope: &Scope<'_>) -> Result<Command<'a>, LineError>
+    ensures { result ≡ by_last scope.now text.now }
+{
     match text {
         [front @ .., b'/'] => read_open(front, scope),
         [front @ .., b'['] => read_opening(front, Opening::Octal, scope),
@@ -348,48 +411,72 @@ fn read_value_line<'a>(text: &[u8], scope: &Scope<'_>) -> Result<Command<'a>, Li
     }
 }
 
-/// The words that a person types who does not know the commands yet.
-static QUESTIONS: [&str; 6] = ["?", "HELP", "QUIT", "EXIT", "H", "Q"];
-
-/// Whether a line is such a word, and no symbol of the program.
-fn asks_for_help(text: &[u8], scope: &Scope<'_>) -> bool {
-    for word in &QUESTIONS {
-        if text.eq_ignore_ascii_case(word.as_bytes()) {
-            return read_value(text, scope).is_err();
-        }
+/// Reads a breakpoint with limits, a text in quotation marks, or what the last character says.
+#[tactic(auto, unfolding(crate::specs::Lines::value_line))]
+fn read_value_line<'a>(text: &[u8], scope: &Scope<'_>) -> Result<Command<'a>, LineError>
+    ensures { result ≡ value_line scope.now text.now }
+{
+    if let Some(i) = limits_place(text) {
+        return read_limited(&text[..i], trimmed(behind(text, i + 1)), scope);
     }
-    false
+    match read_quoted(text, scope) {
+        Some(command) => Ok(command),
+        None => read_by_last(text, scope),
+    }
 }
 
-/// Reads a line without the blanks round it, which is not empty.
-fn read_text<'a>(text: &'a [u8], scope: &Scope<'_>) -> Result<Command<'a>, LineError>
-    ensures previous { text.now ≡ 94 ∷ [] → result ≡ Ok Command.Previous }
-    ensures octal { text.now ≡ 61 ∷ [] → result ≡ Ok (Command.Retype Retype.Octal) }
-    ensures symbolic { text.now ≡ 95 ∷ [] → result ≡ Ok (Command.Retype Retype.Symbolic) }
-    ensures characters { text.now ≡ 59 ∷ [] → result ≡ Ok (Command.Retype Retype.Text) }
-    ensures remark { 2 ≤ length text.now → slice_index text.now 0 ≡ 59 → result ≡ Ok Command.Remark }
+/// Whether a text is a word that a person types who does not know the commands yet.
+fn is_question(text: &[u8]) -> bool
+    ensures { result ≡ is_question text.now }
+{
+    is_name(text, b"?")
+        || is_name(text, b"HELP")
+        || is_name(text, b"QUIT")
+        || is_name(text, b"EXIT")
+        || is_name(text, b"H")
+        || is_name(text, b"Q")
+}
+
+/// Reads a line without the blanks round it, which is no dot command.
+#[tactic(auto, unfolding(crate::specs::Lines::command_in))]
+fn read_command<'a>(text: &[u8], scope: &Scope<'_>) -> Result<Command<'a>, LineError>
+    ensures { result ≡ command_in scope.now text.now }
 {
     match text {
-        [b'^'] => Ok(Command::Previous),
-        [b'='] => Ok(Command::Retype(Retype::Octal)),
-        [b'_'] => Ok(Command::Retype(Retype::Symbolic)),
-        [b';'] => Ok(Command::Retype(Retype::Text)),
-        [b';', ..] => Ok(Command::Remark),
-        [b'.', first, ..] if first.is_ascii_alphabetic() => read_dot_command(&text[1..], scope),
-        _ if asks_for_help(text, scope) => Err(LineError::AsksForHelp),
-        _ => read_value_line(text, scope),
+        [b'^'] => return Ok(Command::Previous),
+        [b'='] => return Ok(Command::Retype(Retype::Octal)),
+        [b'_'] => return Ok(Command::Retype(Retype::Symbolic)),
+        [b';'] => return Ok(Command::Retype(Retype::Text)),
+        [b';', ..] => return Ok(Command::Remark),
+        _ => {}
+    }
+    if is_question(text) && read_value(text, scope).is_err() {
+        return Err(LineError::AsksForHelp);
+    }
+    read_value_line(text, scope)
+}
+
+/// Reads a line without the blanks round it.
+fn read_text<'a>(text: &'a [u8], scope: &Scope<'_>) -> Result<Command<'a>, LineError>
+    ensures { SaysText scope.now text.now result }
+{
+    match text {
+        [b'.', first, ..] if first.is_ascii_alphabetic() => read_dot_command(
+            behind(text, 1),
+            scope,
+        ),
+        _ => read_command(text, scope),
     }
 }
 
-/// Reads a line, without its end, as a command, or tells what is wrong with it. Numbers are octal, and decimal with a point
-/// behind them; those of dot commands are decimal, with a point or without.
+/// Reads a line, without its end, as a command, or tells its fault. Numbers are octal, and decimal with a point
+/// after them; those of dot commands are decimal, with a point or without.
 pub fn read_line<'a>(line: &'a [u8], scope: &Scope<'_>) -> Result<Command<'a>, LineError>
-    ensures next { line.now ≡ [] → result ≡ Ok Command.Next }
-    ensures addressed { line.now ≡ 9 ∷ [] → result ≡ Ok Command.Addressed }
+    ensures { SaysLine scope.now line.now result }
 {
     match line {
         [] => Ok(Command::Next),
         [b'\t'] => Ok(Command::Addressed),
-        _ => read_text(line.trim_ascii(), scope),
+        _ => read_text(trimmed(line), scope),
     }
 }

@@ -1,5 +1,10 @@
 //! Words, in each mode in which they are shown.
 
+ghost use Rattle.std.specs.Prelude.{◌≡◌, ◌++◌, ◌∷◌, [], codes, string_bytes, IfOk, IfSome};
+ghost use Rattle.std.specs.Fmt.{WritesOnOk};
+ghost use Rattle.ddt_commands.specs.Characters.{ascii_codes, sixbit_codes};
+ghost use Rattle.ddt_show.specs.Words.{change_words, marked, octal_or_none, shown_word};
+
 use crate::addresses::ShownJob;
 use ddt_commands::{Codes, OutputMode, ascii_codes, sixbit_codes};
 use run_notes::{InstructionText, Reference};
@@ -20,7 +25,10 @@ pub struct WordText<'a> {
 }
 
 /// Writes five characters of ASCII between quotation marks, and six of SIXBIT between apostrophes.
-fn write_text<W: fmt::Write>(word: Word, f: &mut fmt::Formatter<W>) -> fmt::Result {
+fn write_text<W: fmt::Write>(word: Word, f: &mut fmt::Formatter<W>) -> fmt::Result
+    ensures { WritesOnOk W.write_str_gives f.old result
+        (codes "ASCII " ++ (marked 34 (ascii_codes word) ++ (codes ", SIXBIT " ++ marked 39 (sixbit_codes word)))) f.new }
+{
     let ascii = Codes {
         codes: &ascii_codes(word),
     };
@@ -30,10 +38,24 @@ fn write_text<W: fmt::Write>(word: Word, f: &mut fmt::Formatter<W>) -> fmt::Resu
     write!(f, "ASCII \"{ascii}\", SIXBIT '{sixbit}'")
 }
 
-/// Writes five characters of ASCII, or six of SIXBIT, between quotation marks or apostrophes.
-fn write_codes<W: fmt::Write>(codes: &[u8], mark: char, f: &mut fmt::Formatter<W>) -> fmt::Result {
-    let codes = Codes { codes };
-    write!(f, "{mark}{codes}{mark}")
+/// Writes characters between quotation marks.
+fn write_ascii<W: fmt::Write>(word: Word, f: &mut fmt::Formatter<W>) -> fmt::Result
+    ensures { WritesOnOk W.write_str_gives f.old result (marked 34 (ascii_codes word)) f.new }
+{
+    let codes = Codes {
+        codes: &ascii_codes(word),
+    };
+    write!(f, "\"{codes}\"")
+}
+
+/// Writes characters between apostrophes.
+fn write_sixbit<W: fmt::Write>(word: Word, f: &mut fmt::Formatter<W>) -> fmt::Result
+    ensures { WritesOnOk W.write_str_gives f.old result (marked 39 (sixbit_codes word)) f.new }
+{
+    let codes = Codes {
+        codes: &sixbit_codes(word),
+    };
+    write!(f, "'{codes}'")
 }
 
 /// The digit of a value from 0 to 15.
@@ -72,6 +94,8 @@ fn write_radix<W: fmt::Write>(word: Word, radix: u8, f: &mut fmt::Formatter<W>) 
 }
 
 impl fmt::Display for WordText<'_> {
+    ghost output = { λ t. shown_word t.mode t.word };
+
     fn fmt<W: fmt::Write>(&self, f: &mut fmt::Formatter<W>) -> fmt::Result {
         match self.mode {
             OutputMode::Symbolic => {
@@ -83,8 +107,8 @@ impl fmt::Display for WordText<'_> {
             }
             OutputMode::Octal => self.word.fmt(f),
             OutputMode::Text => write_text(self.word, f),
-            OutputMode::Ascii => write_codes(&ascii_codes(self.word), '"', f),
-            OutputMode::Sixbit => write_codes(&sixbit_codes(self.word), '\'', f),
+            OutputMode::Ascii => write_ascii(self.word, f),
+            OutputMode::Sixbit => write_sixbit(self.word, f),
             OutputMode::Halves => {
                 let left = Reference {
                     places: self.places,
@@ -107,7 +131,9 @@ pub fn word_line(
     job: &ShownJob,
     word: Word,
     mode: OutputMode,
-) -> Result<String, AllocError> {
+) -> Result<String, AllocError>
+    ensures { IfOk result (λ line. IfSome (shown_word mode word) (λ text. string_bytes line ≡ text ++ (10 ∷ []))) }
+{
     let text = WordText {
         places: &job.places,
         word,
@@ -117,7 +143,9 @@ pub fn word_line(
 }
 
 /// A word in octal, or `no word`.
-fn octal_text(alloc: Global, word: Option<Word>) -> Result<String, AllocError> {
+fn octal_text(alloc: Global, word: Option<Word>) -> Result<String, AllocError>
+    ensures { IfOk result (λ text. string_bytes text ≡ octal_or_none word) }
+{
     match word {
         Some(word) => format!(in alloc; "{word}"),
         None => String::from_str(alloc, "no word"),
@@ -125,11 +153,9 @@ fn octal_text(alloc: Global, word: Option<Word>) -> Result<String, AllocError> {
 }
 
 /// What a word was and is: ` was 0, is 1, changed`, each in octal with two halves.
-pub fn change_text(
-    alloc: Global,
-    was: Option<Word>,
-    is: Option<Word>,
-) -> Result<String, AllocError> {
+pub fn change_text(alloc: Global, was: Option<Word>, is: Option<Word>) -> Result<String, AllocError>
+    ensures { IfOk result (λ text. string_bytes text ≡ change_words was is) }
+{
     let was = octal_text(alloc, was)?;
     let is = octal_text(alloc, is)?;
     format!(in alloc; " was {was}, is {is}, changed")

@@ -1,4 +1,3 @@
-pub mod Names
 pub mod NotHere
 pub mod Transcripts
 pub mod Commands

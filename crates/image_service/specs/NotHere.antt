@@ -22,7 +22,7 @@ use Rattle.uuo_calls.specs.CallState.{stopped_at}
 use Rattle.uuo_calls.specs.Laws.{with_new_job}
 use Rattle.uuo_calls.specs.Performed.{World, performed as call_performed}
 use Rattle.uuo_calls.specs.Services.{service_of}
-use Rattle.image_service.specs.Names.{name_of}
+use Rattle.left_out.specs.Words.{name_of}
 
 -- a call that the monitor has not
 abbrev pub is_unlisted : Service → Bool
@@ -64,7 +64,7 @@ named_text [] = []
 named_text (c ∷ name) = codes ": " ++ (c ∷ name)
 
 abbrev pub mark_text : ℕ → List ℕ
-mark_text w = if is_not_here w then kind_text (is_call (fields_of w).op) ++ named_text (name_of (fields_of w)) else []
+mark_text w = if is_not_here w then kind_text (is_call (fields_of w).op) ++ named_text (name_of (fields_of w).op (fields_of w).ac (fields_of w).y) else []
 
 -- ---- what the machine does at such a word
 

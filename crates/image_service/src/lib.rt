@@ -6,7 +6,6 @@ mod endings;
 mod faults;
 mod laws;
 mod listing;
-mod names;
 mod not_here;
 mod repacking;
 mod saving;

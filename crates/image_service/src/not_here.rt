@@ -4,9 +4,9 @@ ghost use Rattle.ka_cpu.specs.Exec.{is_listed};
 ghost use Rattle.uuo_calls.specs.Services.{service_of};
 ghost use Rattle.image_service.specs.NotHere.{is_call, is_left_out, is_not_here, is_unlisted, is_unlisted_call, kind_text, mark_text, named_text};
 
-use crate::names::name_of;
 use ka_isa::{Family, Fields, classify, decode};
 use ka_state::{Accumulator, CallKind};
+use left_out::name_of;
 use std::alloc::AllocError;
 use uuo_calls::{Service, service_of};
 use word36::{Address, Word};
@@ -96,5 +96,5 @@ pub fn push_mark(out: &mut Vec<u8>, word: Word) -> Result<(), AllocError>
     }
     let fields = decode(word);
     out.extend_from_slice(kind_text(fields.op))?;
-    push_named(out, name_of(fields))
+    push_named(out, name_of(fields.op, fields.ac, fields.y))
 }

@@ -3,6 +3,8 @@
 
 mod reasons;
 mod tables;
+mod words;
 
 pub use reasons::Reason;
 pub use tables::{LEFT_OUT, left_out};
+pub use words::{Operands, OtherOperation, name_of, other_of};

@@ -45,7 +45,11 @@ pub enum Reason {
     Pjrst,
     /// ARRAY and INTEGER.
     Arrays,
-    /// `.IF`.
+    /// NOP and NOOP.
+    NoOperation,
+    /// Names of GETTAB's tables and of words of them.
+    MonitorTables,
+    /// `.IF` and `.IFN`.
     OtherIf,
     /// Statements for the linker.
     Linking,
@@ -85,6 +89,9 @@ impl Reason {
                 "it is a macro of MACTEN: write TRNE, TLNE or another test, or DEFINE it",
             Reason::Pjrst => "write JRST",
             Reason::Arrays => "write a label and BLOCK",
+            Reason::NoOperation => "write JFCL",
+            Reason::MonitorTables =>
+                "it is a name of UUOSYM for GETTAB, a call that this monitor has not: write its number",
             Reason::OtherIf => "write IFE, IFDEF or another IF",
             Reason::Linking => "there is one source and no linking",
             Reason::Statements => "this assembler has not this statement of MACRO-10",

@@ -3,7 +3,7 @@
 use crate::reasons::Reason;
 
 /// Names, and why what they stand for is not here.
-pub static LEFT_OUT: [(&[&str], Reason); 26] = [
+pub static LEFT_OUT: [(&[&str], Reason); 28] = [
     (&["DIV", "DIVI", "DIVM", "DIVB"], Reason::DividesTwoWords),
     (&["ASHC"], Reason::ShiftsTwoWords),
     (
@@ -19,17 +19,20 @@ pub static LEFT_OUT: [(&[&str], Reason); 26] = [
         &[
             "DMOVE", "DMOVN", "DMOVEM", "DMOVNM", "DADD", "DSUB", "DMUL", "DDIV", "DFAD", "DFSB",
             "DFMP", "DFDV", "FIX", "FIXR", "FLTR", "EXTEND", "ADJBP", "ADJSP", "MAP", "XMOVEI",
-            "XHLLI", "XJRST", "XJRSTF", "XJEN", "XPCW", "PORTAL",
+            "XHLLI", "XJRST", "XJRSTF", "XJEN", "XPCW", "PORTAL", "SFM", "CMPSL", "CMPSE",
+            "CMPSLE", "EDIT", "CMPSGE", "CMPSN", "CMPSG", "CVTDBO", "CVTDBT", "CVTBDO", "CVTBDT",
+            "MOVSO", "MOVST", "MOVSLJ", "MOVSRJ",
         ],
         Reason::Later,
     ),
     (
         &[
-            "BLKI", "DATAI", "BLKO", "DATAO", "CONO", "CONI", "CONSZ", "CONSO",
+            "BLKI", "DATAI", "BLKO", "DATAO", "CONO", "CONI", "CONSZ", "CONSO", "APR", "PI", "PTP",
+            "PTR", "CDP", "CDR", "LPT", "PLT",
         ],
         Reason::Devices,
     ),
-    (&["JEN"], Reason::Interrupts),
+    (&["JEN", "UJEN"], Reason::Interrupts),
     (
         &[
             "INIT", "OPEN", "RENAME", "IN", "OUT", "SETSTS", "STATO", "GETSTS", "STATZ", "INBUF",
@@ -45,7 +48,8 @@ pub static LEFT_OUT: [(&[&str], Reason); 26] = [
     (&["HIBER", "WAKE"], Reason::Waits),
     (
         &[
-            "RESCAN", "GETLCH", "SETLCH", "IONEOU", "DDTIN", "DDTOUT", "GETLIN", "TRMNO.", "TRMOP.",
+            "RESCAN", "GETLCH", "SETLCH", "IONEOU", "OUTCHI", "DDTIN", "DDTOUT", "GETLIN",
+            "TRMNO.", "TRMOP.",
         ],
         Reason::Terminal,
     ),
@@ -68,8 +72,8 @@ pub static LEFT_OUT: [(&[&str], Reason); 26] = [
     (&["CALL"], Reason::CallByName),
     (
         &[
-            "JSYS", "HALTF", "PSOUT", "PBOUT", "PBIN", "BOUT", "SOUT", "GTJFN", "OPENF", "CLOSF",
-            "ERJMP", "ERCAL", "ESOUT", "RDTTY", "DISMS",
+            "JSYS", "HALTF", "HALTF%", "RESET%", "PSOUT", "PSOUT%", "PBOUT", "PBIN", "BOUT",
+            "SOUT", "GTJFN", "OPENF", "CLOSF", "ERJMP", "ERCAL", "ESOUT", "RDTTY", "DISMS",
         ],
         Reason::OfTops20,
     ),
@@ -83,7 +87,18 @@ pub static LEFT_OUT: [(&[&str], Reason); 26] = [
     ),
     (&["PJRST"], Reason::Pjrst),
     (&["ARRAY", "INTEGER"], Reason::Arrays),
-    (&[".IF"], Reason::OtherIf),
+    (&["NOP", "NOOP"], Reason::NoOperation),
+    (
+        &[
+            ".GTSTS", ".GTADR", ".GTPPN", ".GTPRG", ".GTTIM", ".GTKCT", ".GTPRV", ".GTSWP",
+            ".GTTTY", ".GTCNF", ".GTNSW", ".GTSDT", ".GTSGN", ".GTODP", ".GTLVD", ".GTRCT",
+            ".GTWCT", ".GTDBS", ".GTTDB", ".GTSLF", ".GTDEV", ".GTWSN", ".GTLOC", ".GTCOR",
+            ".GTCOM", ".GTNM1", ".GTNM2", ".GTCNO", ".GTTMP", ".GTWCH", ".GTSPL", ".GTRTD",
+            ".GTLIM", "%CNDAE",
+        ],
+        Reason::MonitorTables,
+    ),
+    (&[".IF", ".IFN"], Reason::OtherIf),
     (
         &[".COMMON", ".ASSIGN", ".LNKEND", ".REQUIRE", ".ENDPS"],
         Reason::Linking,

@@ -89,8 +89,9 @@ fn take_word(state: &mut Assembly, work: &mut Work, step: WordStep) {
         WordStep::Index(base) => index(state, work, base),
         WordStep::Operand {
             takes_address,
+            is_device,
             place,
-        } => behind_operand(state, work, takes_address, place),
+        } => behind_operand(state, work, takes_address, is_device, place),
         WordStep::Accumulator(accumulator) => with_accumulator(work, accumulator),
         WordStep::Instruction(own) => add_instruction(state, work, own),
     }

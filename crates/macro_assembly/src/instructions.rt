@@ -5,7 +5,7 @@ use crate::steps::{Step, WordStep, Work};
 use crate::terms::open;
 use macro_faults::Fault;
 use macro_operands::{
-    Fields, accumulator_fields, address_fields, as_word, eat_comma, eat_commas, eat_indirect,
+    Fields, address_fields, as_word, eat_comma, eat_commas, eat_indirect, first_fields,
     halves_value, index_bits, is_index_next, or_zero, start_of_value,
 };
 use macro_operations::Operation;
@@ -90,6 +90,7 @@ pub fn instruction(state: &mut Assembly, work: &mut Work, operation: Operation) 
         let place = start_of_value(state);
         let step = WordStep::Operand {
             takes_address: operation.address,
+            is_device: operation.device,
             place,
         };
         work.push(state, Step::Word(step));
@@ -101,16 +102,22 @@ pub fn instruction(state: &mut Assembly, work: &mut Work, operation: Operation) 
     }
 }
 
-/// Goes on behind the first operand of an instruction that takes an accumulator: that, or the address.
-pub fn behind_operand(state: &mut Assembly, work: &mut Work, takes_address: bool, place: Place) {
+/// Goes on behind the first operand of an instruction that takes an accumulator or a device: that, or the address.
+pub fn behind_operand(
+    state: &mut Assembly,
+    work: &mut Work,
+    takes_address: bool,
+    is_device: bool,
+    place: Place,
+) {
     let first = work.value();
     if eat_comma(state) {
-        let accumulator = accumulator_fields(state, or_zero(first), place);
-        return behind_accumulator(state, work, takes_address, accumulator);
+        let fields = first_fields(state, or_zero(first), is_device, place);
+        return behind_accumulator(state, work, takes_address, fields);
     }
     if !takes_address {
         if first.is_some() {
-            state.fail(place, Fault::ExpectedAtEnd);
+            state.fail(place, Fault::NoAddress);
         }
         return work.give_fields(Fields::none());
     }

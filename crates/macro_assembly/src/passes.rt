@@ -4,21 +4,29 @@ use crate::dispatch::carry_out;
 use crate::steps::Work;
 use macro_faults::{Failure, Fault, Report};
 use macro_names::{Name, NameReader, is_blank, is_digit, is_name_character, text_of};
-use macro_operations::{of_dialect, of_subset};
+use macro_operations::{of_dialect, of_others, of_subset};
 use macro_state::Assembly;
 use macro_stream::Limit;
 use search_files::has_macro;
 use std::alloc::{AllocError, Global};
 
 /// Assembles a source in two passes. `faults` of the assembly has what is wrong with the source; it is empty where the
-/// image is that of the source.
-pub fn assemble(alloc: Global, source: &[u8]) -> Result<Assembly, AllocError> {
-    assemble_up_to(alloc, source, Limit::Errors.most() as usize)
+/// image is that of the source. If `takes_others`, operations and calls of other machines and other monitors are taken for their
+/// words if the source gives their names no meaning, and `others` of the assembly has each use.
+pub fn assemble(alloc: Global, source: &[u8], takes_others: bool) -> Result<Assembly, AllocError> {
+    let most = Limit::Errors.most() as usize;
+    assemble_up_to(alloc, source, takes_others, most)
 }
 
 /// Assembles a source as `assemble` does, and ends where there are more faults than so many.
-pub fn assemble_up_to(alloc: Global, source: &[u8], most: usize) -> Result<Assembly, AllocError> {
+pub fn assemble_up_to(
+    alloc: Global,
+    source: &[u8],
+    takes_others: bool,
+    most: usize,
+) -> Result<Assembly, AllocError> {
     let mut state = Assembly::new(alloc, source)?;
+    state.takes_others = takes_others;
     state.most_faults = most;
     match run_passes(&mut state, &mut Work::new(alloc)) {
         Ok(()) => Ok(state),
@@ -202,11 +210,12 @@ fn run_at(state: &Assembly, from: usize) -> Run {
     }
 }
 
-/// Whether a name, as a label, takes the place of a statement of this dialect; or, in a source with SEARCH, of a macro that SEARCH
-/// defines.
-fn takes_place(name: Name, searches: bool) -> bool {
+/// Whether a name, as a label, takes the place of a statement of this dialect; in a source with SEARCH, of a macro that SEARCH
+/// defines; or, if these are taken, of an operation or a call of another machine or another monitor.
+fn takes_place(name: Name, searches: bool, takes_others: bool) -> bool {
     of_dialect(name).is_some() && of_subset(name).is_none()
         || searches && has_macro(text_of(name).as_slice())
+        || takes_others && of_others(text_of(name).as_slice()).is_some()
 }
 
 /// Finds the names that stand as labels in the source, up to the line with END, and that only the dialect has as
@@ -228,7 +237,7 @@ fn find_soft_names(state: &mut Assembly) -> Result<(), AllocError> {
         at = run.end;
         if run.is_name && source_character(state, at) == b':' {
             at = at.saturating_add(1);
-            if takes_place(run.name, searches) && !state.is_soft(run.name) {
+            if takes_place(run.name, searches, state.takes_others) && !state.is_soft(run.name) {
                 state.assumed_labels.push(run.name)?;
             }
         } else {

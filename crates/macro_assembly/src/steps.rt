@@ -75,17 +75,32 @@ pub enum BracketStep {
 #[derive(Clone, Copy)]
 pub enum WordStep {
     /// The first value of a word is read.
-    First { start: Place, indirect: bool },
+    First {
+        start: Place,
+        indirect: bool,
+    },
     /// The right half is read; the left one begins at `start`.
-    RightHalf { left: Option<Value>, start: Place },
+    RightHalf {
+        left: Option<Value>,
+        start: Place,
+    },
     /// The index of a word is read.
-    Indexed { base: Fields, placed: bool },
+    Indexed {
+        base: Fields,
+        placed: bool,
+    },
     /// The value of an address is read.
-    Base { indirect: bool },
+    Base {
+        indirect: bool,
+    },
     /// The index of an address is read.
     Index(Fields),
     /// The first operand of an instruction is read.
-    Operand { takes_address: bool, place: Place },
+    Operand {
+        takes_address: bool,
+        is_device: bool,
+        place: Place,
+    },
     /// The fields behind an accumulator are read.
     Accumulator(Fields),
     /// The fields of an instruction are read, whose word has these.

@@ -4,7 +4,6 @@ use Rattle.std.specs.List.{take_while}
 use Rattle.mac_text.specs.Characters.{is_digit, is_name_character}
 use Rattle.mac_text.specs.Scan.{after_blanks, begins_with, begins_with_commas}
 use Rattle.macro_expressions.specs.declared.fault.Stop.{Stop}
-use Rattle.macro_expressions.specs.declared.fault.Stop.TheVariants.{Beyond}
 use Rattle.macro_expressions.specs.declared.fault.Fault.{Fault}
 use Rattle.macro_expressions.specs.declared.fault.Fault.TheVariants as faults
 

@@ -4,6 +4,7 @@ use Rattle.std.specs.Prelude.{ℕ, zero, suc, ◌+◌, ◌-◌, ℤ, pos, neg_�
 use Rattle.std.specs.Prelude.{◌==◌, ◌||◌, ◌&&◌, List, [], ◌∷◌, ◌++◌, length, drop, Option, Some, None}
 use Rattle.std.specs.Prelude.{unwrap_or, unsigned_abs, nat_eq, if◌then◌else◌}
 use Rattle.std.specs.Option.{option_map}
+use Rattle.std.specs.List.{list_any}
 use Rattle.std.specs.Map.{lookup}
 use Rattle.word36.specs.Words.{signed_value, complement}
 use Rattle.ka_isa.specs.declared.calls.Named.{Named}
@@ -26,11 +27,12 @@ use Rattle.macro_expressions.specs.Reading.{◌>>=◌, Front, Reader, or_stop, w
 use Rattle.macro_expressions.specs.Reading.{eaten, begins_name, begins_name_character, digits_of, ends_line, across_lines}
 use Rattle.macro_expressions.specs.Operations.{operation_of}
 
--- what names stand for in a statement: symbols as they were defined last, else by a table of the whole source; the point; and where
--- the pool of its literals begins
+-- what names stand for in a statement: symbols as they were defined last, else by a table of the whole source; the names that may be
+-- macros, of which no value is judged; the point; and where the pool of its literals begins
 pub record Names : Type 0 where
   pub table : List (ℕ × ℤ)
   pub defined : List (ℕ × Defined)
+  pub macros : List ℕ
   pub here : ℤ
   pub pool_at : ℤ
 
@@ -80,10 +82,17 @@ word_meant (Some named) = Some (signed_value named.word)
 abbrev pub name_value : Names → List ℕ → Option ℤ
 name_value names name = first_of (symbol_in names (symbol_of name)) (word_meant (operation_of name))
 
+abbrev pub is_macro : Names → ℕ → Bool
+is_macro names name = list_any (nat_eq name) names.macros
+
 unfoldable pub name_at : Scope → Reader ℤ
-name_at scope s = do
-  z ← or_stop Wrong (name_value scope.names (word_of s.rest))
-  Ok (z, without (length (word_of s.rest)) s)
+name_at scope s =
+    elim (is_macro scope.names (symbol_of (word_of s.rest))) [
+      | true ↦ Err Beyond
+      | false ↦ do
+        z ← or_stop Wrong (name_value scope.names (word_of s.rest))
+        Ok (z, without (length (word_of s.rest)) s)
+    ]
 
 -- digits in a radix; each has to be one of it
 unfoldable pub digits_at : ℕ → Reader ℤ

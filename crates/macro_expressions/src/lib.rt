@@ -19,7 +19,7 @@ pub use characters::{
 };
 pub use expressions::optional;
 pub use fault::{BEYOND, Fault, Stop, WRONG};
-pub use known::Known;
+pub use known::{Known, has_symbol, is_one_of};
 pub use numbers::{as_natural, as_word};
 pub use operations::{found_in, operation, other_operation};
 pub use operators::or_zero;

@@ -1,8 +1,8 @@
 //! Signs and operators.
 
-ghost use Rattle.std.specs.Prelude.{◌≡◌, ◌≤◌, ℕ, ℤ, List, length, pos, unwrap_or, Some, None, IfSome};
+ghost use Rattle.std.specs.Prelude.{◌≡◌, ◌≤◌, ℤ, length, pos, unwrap_or, Some, None, IfSome};
 ghost use Rattle.mac_text.specs.Scan.{after_blanks};
-ghost use Rattle.macro_expressions.specs.Reading.{Front, Reader, Gives, skipped, without};
+ghost use Rattle.macro_expressions.specs.Reading.{Reader, Gives, skipped, without};
 ghost use Rattle.macro_expressions.specs.Values.{sign_of, infix_of, infix_length, infix_at, strength_of, level_at, more_at};
 
 use crate::fault::Fault;

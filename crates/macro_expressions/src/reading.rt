@@ -3,7 +3,7 @@
 ghost use Rattle.std.specs.Prelude.{◌≡◌, ◌≤◌, ◌++◌, [], length, pos, OnOk};
 ghost use Rattle.std.specs.Str.{IsAscii};
 ghost use Rattle.mac_text.specs.Scan.{after_blanks, word_of};
-ghost use Rattle.macro_expressions.specs.Reading.{Front, Gives, skipped, without, meets, eaten, meets_commas, digits_of, across_lines, without_line};
+ghost use Rattle.macro_expressions.specs.Reading.{Front, Gives, skipped, without, meets, eaten, meets_commas, across_lines, without_line};
 ghost use Rattle.macro_expressions.specs.Values.{digits_at};
 
 use crate::characters::{begins_with, blanks_len, digits_len, word_len};

@@ -1,6 +1,6 @@
 //! Terms.
 
-ghost use Rattle.std.specs.Prelude.{◌≡◌, ◌≤◌, IfSome, length};
+ghost use Rattle.std.specs.Prelude.{◌≡◌, ◌≤◌, IfSome};
 ghost use Rattle.std.specs.Str.{IsAscii};
 ghost use Rattle.macro_expressions.specs.Reading.{Gives};
 ghost use Rattle.macro_expressions.specs.Values.{radix_of, begins_bits, plain_at, bracket_at, based_at, marked_at, bit_at, bits_behind, name_value, name_at};
@@ -61,6 +61,9 @@ fn name<A: Around>(around: &A, front: &mut Reading<'_>) -> Result<Whole, Fault>
     ensures { Gives (λ z. (z, front.new)) result (name_at (A.scope around.now) front.old) }
 {
     let word = front.word();
+    if around.names().is_macro(word) {
+        return Err(BEYOND);
+    }
     let Some(value) = name_value(around.names(), word) else {
         return Err(WRONG);
     };

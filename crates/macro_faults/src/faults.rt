@@ -19,6 +19,10 @@ pub enum Fault {
     Accumulator(i64),
     /// An index register is 0 to 17 octal.
     Index(u32),
+    /// A device is 0 to 774 octal, and a multiple of 4.
+    Device(i64),
+    /// An operand that is an address, of an operation that takes none.
+    NoAddress,
     /// A half or an address is -777777 to 777777 octal.
     Half(Option<i64>),
     /// A value that does not fit its byte, and the bits of the byte.
@@ -135,6 +139,7 @@ impl Fault {
                 b'Q',
             Fault::Accumulator(_) | Fault::Index(_) | Fault::Half(_) | Fault::ByteValue(_, _) =>
                 b'Q',
+            Fault::Device(_) | Fault::NoAddress => b'Q',
             Fault::NoQuote(_) | Fault::LongQuote(_) | Fault::EmptyQuote => b'Q',
             Fault::NoWord(_) | Fault::Digits(_, _) | Fault::LongDigits(_) => b'N',
             Fault::ExpectedNumberEnd(_) | Fault::BitNumber(_) | Fault::Scaled => b'N',

@@ -44,6 +44,10 @@ fn misfit_words(fault: Fault) -> Option<(Told, &'static str)> {
             Told::Octal(Some(i64::from(n))),
             "an index register is 0 to 17 (octal)",
         ),
+        Fault::Device(n) => (
+            Told::Octal(Some(n)),
+            "a device is 0 to 774 and a multiple of 4 (octal)",
+        ),
         Fault::Half(n) => (
             Told::Octal(n),
             "a half or an address is -777777 to 777777 (octal)",
@@ -94,6 +98,9 @@ fn plain_words(fault: Fault) -> Option<&'static str> {
     match fault {
         Fault::NotAscii => Some("a byte that is not ASCII"),
         Fault::ExpectedAtEnd => Some("expected more before the end of the line"),
+        Fault::NoAddress => {
+            Some("this operation takes no address, and an accumulator has a comma after it")
+        }
         Fault::Scaled => Some("^F and ^L are not here: write the word in octal"),
         Fault::FloatForm => {
             Some("a constant of floating point has a point between digits, as 1.0E5 has")

@@ -18,6 +18,8 @@ pub struct Options<'a> {
     pub cross: Option<&'a str>,
     /// Whether what is not here is counted, and nothing is assembled.
     pub survey: bool,
+    /// Whether operations and calls of other machines and other monitors are assembled.
+    pub takes_others: bool,
     /// The arguments that name files, each with one name or several.
     pub arguments: Vec<&'a str>,
     /// The files that they name, which make the source, where it is not standard input.
@@ -46,6 +48,9 @@ const CROSS: &str = "write to this file where each name is defined and used";
 const SURVEY: &str =
     "count what the sources have and this assembler has not, and write what to write instead";
 
+const ALL_OPERATIONS: &str =
+    "assemble operations and calls of DEC's manuals that are not here, too, with a warning for each";
+
 const FILE: &str =
     "the source, and not standard input: several files, as in pre.mac prog.mac or pre.mac+prog.mac, are read as one";
 
@@ -66,7 +71,8 @@ fn make_command<'a>(alloc: Global) -> Result<Command<'a>, AllocError> {
     let with_list = top.arg(make_file(alloc, "list", "FILE.lst", LIST))?;
     let with_cross = with_list.arg(make_file(alloc, "cross", "FILE.crf", CROSS))?;
     let with_survey = with_cross.arg(make_flag(alloc, "survey", SURVEY))?;
-    with_survey.arg(
+    let with_all = with_survey.arg(make_flag(alloc, "all-operations", ALL_OPERATIONS))?;
+    with_all.arg(
         Arg::new(alloc, "FILE")
             .help(FILE)
             .num_args(1..)
@@ -110,6 +116,7 @@ fn options_in<'a>(alloc: Global, matches: &ArgMatches<'a>) -> Result<Options<'a>
         list,
         cross,
         survey,
+        takes_others: matches.get_flag("all-operations"),
         arguments,
         files,
     })

@@ -11,7 +11,7 @@ use crate::survey::survey;
 use joined_files::{Joined, end_line, unread_text};
 use macro_assembly::assemble;
 use macro_output::{
-    Plain, Written, plain_source, push_cross, push_faults, push_listing, source_of,
+    Plain, Written, plain_source, push_cross, push_faults, push_listing, push_warnings, source_of,
 };
 use macro_state::Assembly;
 use program_shell::{
@@ -249,6 +249,25 @@ fn report_unread<E: ByteOut>(alloc: Global, source: &Joined, end: usize, errors:
     }
 }
 
+/// Reports each use of an operation or a call of another machine or another monitor, if the source is not refused.
+fn report_others<E: ByteOut>(state: &Assembly, source: &Joined, errors: &mut E) -> bool
+    requires { E.has_failed errors.old ≡ false }
+    ensures { IsTrue result → E.has_failed errors.new ≡ false }
+{
+    if !state.faults.is_empty() {
+        return true;
+    }
+    let mut text = Vec::new(state.alloc);
+    let (lines, parts) = (source.text.as_slice(), source.parts.as_slice());
+    match push_warnings(&mut text, state, lines, parts) {
+        Ok(()) => write_all(errors, text.as_slice()).is_ok(),
+        Err(_) => {
+            let _status = report_failure(errors, &FAILURE_LINES, Failure::Memory);
+            false
+        }
+    }
+}
+
 /// Writes a text to a file, where there is one and it is wanted; or gives the exit status where that fails, which is
 /// reported.
 fn write_file<F: Files + AllocGlobal, E: ByteOut>(
@@ -342,6 +361,9 @@ fn answer_with<F: Files + AllocGlobal, W: ByteOut, E: ByteOut>(
     if !report_unread(rt.alloc(), source, state.listing.last as usize, errors) {
         return FAILED;
     }
+    if !report_others(state, source, errors) {
+        return FAILED;
+    }
     write_all_of(rt, options, &output, writer, errors)
 }
 
@@ -364,7 +386,7 @@ fn answer_assembled<F: Files + AllocGlobal, W: ByteOut, E: ByteOut>(
     ensures written { result ≡ DONE → HasAnswer source.now.text.items (W.written writer.old) (W.written writer.new) }
     ensures refused { result ≡ REFUSED → IsErr (outcome_of source.now.text.items) }
 {
-    let Ok(state) = assemble(rt.alloc(), source.text.as_slice()) else {
+    let Ok(state) = assemble(rt.alloc(), source.text.as_slice(), options.takes_others) else {
         return report_failure(errors, &FAILURE_LINES, Failure::Memory);
     };
     let status = answer_with(rt, options, &state, source, plain, writer, errors);
@@ -422,7 +444,7 @@ pub fn program<F: Files + AllocGlobal, S: AsStr, R: ByteIn, W: ByteOut, E: ByteO
         Err(refusal) => return refuse_arguments(alloc, refusal, &FAILURE_LINES, writer, errors),
     };
     if options.survey {
-        return survey(rt, options.arguments.as_slice(), reader, writer, errors);
+        return survey(rt, &options, reader, writer, errors);
     }
     match read_source(rt, options.files.as_slice(), reader, errors) {
         Ok(source) => answer(rt, &options, &source, writer, errors),

@@ -1,11 +1,13 @@
 //! What sources have that is not here.
 ghost use Rattle.std.specs.Prelude.{◌≡◌, false, IfOk};
 
+use crate::arguments::Options;
 use crate::serving::{FAILURE_LINES, add_files, write_text};
 use joined_files::{Joined, push_names};
 use macro_assembly::assemble_up_to;
 use macro_faults::{Fault, push_words};
-use macro_names::Name;
+use macro_names::{Name, text_of};
+use macro_operations::of_others;
 use program_shell::{Failure, read_input, report_failure};
 use script_io::{ByteIn, ByteOut, push_decimal};
 use std::alloc::{AllocError, Global};
@@ -30,6 +32,8 @@ struct Construct {
 pub struct Counts {
     alloc: Global,
     constructs: Vec<Construct>,
+    /// Whether operations and calls of other machines and other monitors are assembled.
+    takes_others: bool,
     /// Faults that say that something is wrong, and not that it is not here.
     others: u32,
 }
@@ -55,12 +59,16 @@ fn absent_name(fault: Fault) -> Option<Name> {
     }
 }
 
+/// The words after a name that `--all-operations` takes.
+const TAKEN: &[u8] = b" (--all-operations takes it)";
+
 impl Counts {
-    /// Nothing yet.
-    pub fn new(alloc: Global) -> Counts {
+    /// Nothing yet. If `takes_others`, operations and calls of other machines and other monitors are not counted.
+    pub fn new(alloc: Global, takes_others: bool) -> Counts {
         Counts {
             alloc,
             constructs: Vec::new(alloc),
+            takes_others,
             others: 0,
         }
     }
@@ -79,6 +87,11 @@ impl Counts {
         }
         let mut words = Vec::new(self.alloc);
         push_words(&mut words, fault, source, line)?;
+        if matches!(&fault, Fault::LeftOut(_, _, _))
+            && of_others(text_of(name).as_slice()).is_some()
+        {
+            words.extend_from_slice(TAKEN)?;
+        }
         self.constructs.push(Construct {
             name,
             count: 1,
@@ -89,7 +102,7 @@ impl Counts {
 
     /// Counts what a source has.
     pub fn add_source(&mut self, source: &[u8]) -> Result<(), AllocError> {
-        let state = assemble_up_to(self.alloc, source, MOST_COUNTED)?;
+        let state = assemble_up_to(self.alloc, source, self.takes_others, MOST_COUNTED)?;
         for report in &state.faults {
             self.add(report.fault, source, report.place.line)?;
         }
@@ -193,7 +206,7 @@ fn count_all<F: Files + AllocGlobal, R: ByteIn, E: ByteOut>(
 /// source, of one file or several; without arguments the reader has it.
 pub fn survey<F: Files + AllocGlobal, R: ByteIn, W: ByteOut, E: ByteOut>(
     rt: &F,
-    arguments: &[&str],
+    options: &Options<'_>,
     reader: &mut R,
     writer: &mut W,
     errors: &mut E,
@@ -202,7 +215,8 @@ pub fn survey<F: Files + AllocGlobal, R: ByteIn, W: ByteOut, E: ByteOut>(
     requires writer_sound { W.has_failed writer.old ≡ false }
     requires errors_sound { E.has_failed errors.old ≡ false }
 {
-    let mut counts = Counts::new(rt.alloc());
+    let mut counts = Counts::new(rt.alloc(), options.takes_others);
+    let arguments = options.arguments.as_slice();
     if let Err(status) = count_all(rt, arguments, &mut counts, reader, errors) {
         return status;
     }

@@ -1,5 +1,5 @@
 -- What a source means by a table and the places of pools.
-use Rattle.std.proofs.Common.{◌≡◌, ℕ, ℤ, List, Option, Some, Bool, true, Result, Ok, Err}
+use Rattle.std.proofs.Common.{◌≡◌, ℕ, ℤ, List, Some, true, Result, Ok, Err}
 use Rattle.std.specs.Prelude.{IsPermutation}
 use Rattle.macro_expressions.specs.declared.fault.Stop.{Stop}
 use Rattle.macro_expressions.specs.declared.fault.Stop.TheVariants.{Beyond}

@@ -1,17 +1,12 @@
-//! What a source of MACRO-10 means in which no macro is called.
+//! What a source of MACRO-10 means.
 #![tactic(auto)]
 
-mod brackets;
-mod data;
-mod forms;
-mod instructions;
-mod mentions;
+mod early;
+mod openings;
 mod scopes;
 mod sources;
 mod steps;
-mod texts;
 mod walk;
-mod words;
 
 pub use scopes::Table;
 pub use sources::is_meant;

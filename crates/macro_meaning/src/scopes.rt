@@ -3,15 +3,13 @@
 ghost use Rattle.std.specs.Prelude.{◌≡◌};
 ghost use Rattle.macro_expressions.specs.Reading.{Gives};
 ghost use Rattle.macro_expressions.specs.Values.{optional_at};
-ghost use Rattle.macro_meaning.specs.Words.{form_words, words_by, inside_at};
+ghost use Rattle.macro_statements.specs.Words.{form_words, words_by, inside_at};
 ghost use Rattle.macro_meaning.specs.Meaning.{names_of, scope_of};
 
-use crate::brackets::{Brackets, Deeper, Ground};
-use crate::data::{form_words, inside, words_by};
-use crate::forms::{Form, Meant};
 use crate::walk::Walk;
 use indexmap::IndexMap;
 use macro_expressions::{Fault, Reading, optional};
+use macro_statements::{Brackets, Deeper, Form, Ground, Meant, form_words, inside, words_by};
 use macro_values::Whole;
 use word36::Word;
 

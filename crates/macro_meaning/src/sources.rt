@@ -1,49 +1,132 @@
 //! What whole sources mean, beside the images that were made of them.
 
-ghost use Rattle.std.specs.Prelude.{◌≡◌, IfOk, IsTrue, Some, IsPermutation, is_some, slice_get};
+ghost use Rattle.std.specs.Prelude.{◌≡◌, [], IfOk, OnOk, IsTrue, Some, IsPermutation, is_some, slice_get};
 ghost use Rattle.std.specs.List.{list_all};
+ghost use Rattle.std.specs.Option.{option_map};
 ghost use Rattle.macro_expressions.specs.Reading.{Gives};
 ghost use Rattle.macro_expressions.specs.Values.{defined_as};
-ghost use Rattle.macro_meaning.specs.Meaning.{next_step, walked, meaning, has_value, has_definition, is_settled, IsLeft, IsMeant, Stands};
+ghost use Rattle.macro_meaning.specs.Meaning.{can_enter, entered, next_step, walked, read_through, meaning, has_value, has_definition, is_settled, IsLeft, IsMeant, Stands};
 
-use crate::mentions::mentions;
 use crate::scopes::Table;
 use crate::steps::step;
 use crate::walk::Walk;
 use indexmap::IndexMap;
+use macro_expansion::joins;
 use macro_expressions::{BEYOND, Defined, Fault, Reading, Stop, WRONG};
+use macro_statements::{mentions, survey};
 use std::alloc::{AllocError, Global};
 use word36::{Image, Word};
 
-/// Reads the next label or statement, which has to be there; gives whether it is END.
+/// How many texts, one put in front while another is read, are judged.
+const MOST_DEPTH: u32 = 40;
+
+/// Whether a text can be read before what is left.
+fn can_enter(text: &[u8], front: &Reading<'_>) -> bool
+    ensures { result ≡ can_enter text.now front.now }
+{
+    joins(text, front.rest()) && !mentions(text)
+}
+
+/// Begins a text that is read before what is left; the pool goes with it.
+fn begin<'b>(front: &mut Reading<'_>, text: &'b [u8]) -> Result<Reading<'b>, AllocError>
+    ensures inner { IfOk result (λ inner. inner ≡ record front.old { rest = text.now }) }
+    ensures rest { OnOk result (front.new ≡ record front.old { pool = [] }) }
+{
+    let mut inner = Reading::new(front.alloc(), front.radix(), text);
+    let pool = front.take_pool();
+    inner.push_literal(pool.as_slice())?;
+    Ok(inner)
+}
+
+/// Goes on after a text that was put first.
+fn finish(front: &mut Reading<'_>, inner: &mut Reading<'_>) -> Result<(), AllocError>
+    requires { front.old.pool ≡ [] }
+    ensures { OnOk result (front.new ≡ record inner.old { rest = front.old.rest }) }
+{
+    front.swap_radix(inner.radix());
+    let pool = inner.take_pool();
+    front.push_literal(pool.as_slice())
+}
+
+/// Reads a text that is put in front, if one is.
+#[cycle(reading)]
+fn enter(
+    table: &Table,
+    depth: u32,
+    text: Option<Vec<u8>>,
+    walk: &mut Walk<'_>,
+    front: &mut Reading<'_>,
+) -> Result<(), Fault>
+    ensures { Gives (λ _. (walk.new, front.new)) result (entered (read_through table.now.entries depth) (option_map (λ t. t.items) text) walk.old front.old) }
+{
+    let Some(text) = text else {
+        return Ok(());
+    };
+    if !can_enter(text.as_slice(), front) {
+        return Err(BEYOND);
+    }
+    walk.spend(text.len())?;
+    let mut inner = begin(front, text.as_slice())?;
+    read_through(table, depth, walk, &mut inner)?;
+    Ok(finish(front, &mut inner)?)
+}
+
+/// Reads the next label or statement, with what it puts in front; gives whether that is the end.
+#[cycle(reading)]
 #[tactic(auto, unfolding(crate::specs::Meaning::next_step))]
-fn next(table: &Table, walk: &mut Walk<'_>, front: &mut Reading<'_>) -> Result<bool, Fault>
-    ensures { Gives (λ is_end. (is_end, (walk.new, front.new))) result (next_step table.now.entries walk.old front.old) }
+fn next(
+    table: &Table,
+    depth: u32,
+    walk: &mut Walk<'_>,
+    front: &mut Reading<'_>,
+) -> Result<bool, Fault>
+    ensures { Gives (λ is_end. (is_end, (walk.new, front.new))) result (next_step table.now.entries (read_through table.now.entries depth) walk.old front.old) }
 {
     front.cross_lines();
     if front.rest().is_empty() {
-        return Err(WRONG);
+        return Ok(true);
     }
-    step(table, walk, front)?;
+    let text = step(table, walk, front)?;
+    enter(table, depth, text, walk, front)?;
     Ok(walk.start().is_some())
 }
 
-/// Reads labels and statements up to END, at most `most`.
+/// Reads labels and statements, at most `most`, up to the end of a text or END.
+#[cycle(reading)]
 fn walk_through(
     table: &Table,
+    depth: u32,
     most: usize,
     walk: &mut Walk<'_>,
     front: &mut Reading<'_>,
 ) -> Result<(), Fault>
-    ensures { Gives (λ _. walk.new) result (walked table.now.entries most walk.old front.old) }
+    ensures { Gives (λ _. (walk.new, front.new)) result (walked (next_step table.now.entries (read_through table.now.entries depth)) most walk.old front.old) }
 {
     for _ in 0..most {
-        let is_end = next(table, walk, front)?;
+        let is_end = next(table, depth, walk, front)?;
         if is_end {
             return Ok(());
         }
     }
     Err(BEYOND)
+}
+
+/// Reads labels and statements of a text, or those up to END. Texts, one put in front while another is read, are at most `depth`.
+#[cycle(reading)]
+#[tactic(auto, unfolding(crate::specs::Meaning::read_through))]
+fn read_through(
+    table: &Table,
+    depth: u32,
+    walk: &mut Walk<'_>,
+    front: &mut Reading<'_>,
+) -> Result<(), Fault>
+    ensures { Gives (λ _. (walk.new, front.new)) result (read_through table.now.entries depth walk.old front.old) }
+{
+    if depth == 0 {
+        return Err(BEYOND);
+    }
+    let most = front.rest().len() + 1;
+    walk_through(table, depth - 1, most, walk, front)
 }
 
 /// What a source leaves.
@@ -56,13 +139,17 @@ fn meaning<'a>(
 ) -> Result<Walk<'a>, Fault>
     ensures { Gives (λ walk. walk) result (meaning table.now.entries pools.now source.now) }
 {
-    if mentions(source) {
+    let Some(names) = survey(alloc, source)? else {
         return Err(BEYOND);
-    }
-    let mut walk = Walk::new(alloc, pools);
+    };
+    let mut walk = Walk::new(alloc, pools, names);
     let mut front = Reading::new(alloc, 8, source);
-    walk_through(table, source.len() + 1, &mut walk, &mut front)?;
-    Ok(walk)
+    read_through(table, MOST_DEPTH, &mut walk, &mut front)?;
+    if walk.start().is_some() {
+        Ok(walk)
+    } else {
+        Err(WRONG)
+    }
 }
 
 /// The entry of a map at a position, in the order of insertion.
@@ -201,8 +288,8 @@ fn stands(
 }
 
 /// Whether an image is what its source means, as far as that is judged. The table has the last values of all symbols, and
-/// `pools` the places of the words of literals, one for each LIT and END. False if a value of the source is wrong, a name stands for
-/// nothing or is defined twice, or the words, their places, the start or the symbols are others. A source with something that is
+/// `pools` the places of the words of literals, one for each LIT and END. False if a value of the source is wrong, a name has
+/// no meaning or is defined twice, or the words, their places, the start or the symbols are others. A source with something that is
 /// not judged passes.
 #[tactic(auto, using(crate::proofs::Stands::is_meant_by))]
 pub fn is_meant(

@@ -1,25 +1,31 @@
 //! The statements of a source.
 
 ghost use Rattle.std.specs.Prelude.{◌≡◌, pos, unwrap_or};
+ghost use Rattle.std.specs.Option.{option_map};
 ghost use Rattle.mac_text.specs.Scan.{after_blanks};
-ghost use Rattle.macro_expressions.specs.Reading.{Gives};
-ghost use Rattle.macro_meaning.specs.Meaning.{first_place, scope_of, less, behind_word, is_label, is_assignment, assigned_text};
-ghost use Rattle.macro_meaning.specs.Meaning.{pool_step, place_step, radix_step, end_step, form_step, meant_step, statement_step};
-ghost use Rattle.macro_meaning.specs.Meaning.{label_step, assignment_step, unlabelled_step, step};
+ghost use Rattle.macro_expressions.specs.Reading.{Gives, ends_line};
+ghost use Rattle.macro_statements.specs.Mentions.{behind_word};
+ghost use Rattle.macro_meaning.specs.Meaning.{first_place, scope_of, less, is_label, is_assignment, assigned_text};
+ghost use Rattle.macro_meaning.specs.Meaning.{pool_step, place_step, block_step, radix_step, end_step, form_step, meant_step};
+ghost use Rattle.macro_meaning.specs.Meaning.{label_step, assignment_step, plain, ended, named_step, unlabelled_step, step};
 
-use crate::data::meant;
-use crate::forms::{Form, Meant};
+use crate::early::{early_natural, is_early};
+use crate::openings::{call, is_call, opening, opens};
 use crate::scopes::{Table, data_next, inside_next, value_next, words_next};
 use crate::walk::Walk;
 use mac_text::Symbol;
 use macro_expressions::{
     BEYOND, Fault, Reading, WRONG, as_natural, as_word, begins_name, begins_with, blanks_len,
-    ends_line, word_len,
+    ends_line,
 };
+use macro_statements::{Form, Meant, behind_word, meant, zeros};
 use macro_values::Whole;
 
 /// The greatest place that LOC sets.
 const MOST_PLACE: u32 = 1 << 27;
+
+/// The greatest number of words that BLOCK gives.
+const MOST_WORDS: u32 = 1 << 18;
 
 /// The greatest start.
 const MOST_START: u32 = 0o777_777;
@@ -38,31 +44,39 @@ fn place_pool(walk: &mut Walk<'_>, front: &mut Reading<'_>) -> Result<(), Fault>
 
 /// LOC: sets the place.
 #[tactic(auto, unfolding(crate::specs::Meaning::place_step))]
-fn set_place(table: &Table, walk: &mut Walk<'_>, front: &mut Reading<'_>) -> Result<(), Fault>
-    ensures { Gives (λ _. (walk.new, front.new)) result (place_step (scope_of table.now.entries walk.old) walk.old front.old) }
+fn set_place(walk: &mut Walk<'_>, front: &mut Reading<'_>) -> Result<(), Fault>
+    ensures { Gives (λ _. (walk.new, front.new)) result (place_step walk.old front.old) }
 {
-    let Some(value) = value_next(table, walk, front)? else {
-        return Err(BEYOND);
-    };
-    let place = as_natural(front.alloc(), MOST_PLACE, &value)?;
+    let (place, rest) = early_natural(MOST_PLACE, walk, front)?;
     walk.set_place(place);
+    front.set_rest(rest);
+    Ok(())
+}
+
+/// BLOCK: n words of 0.
+#[tactic(auto, unfolding(crate::specs::Meaning::block_step))]
+fn put_block(walk: &mut Walk<'_>, front: &mut Reading<'_>) -> Result<(), Fault>
+    ensures { Gives (λ _. (walk.new, front.new)) result (block_step walk.old front.old) }
+{
+    let (count, rest) = early_natural(MOST_WORDS, walk, front)?;
+    let words = zeros(front.alloc(), count)?;
+    walk.put(words.as_slice())?;
+    front.set_rest(rest);
     Ok(())
 }
 
 /// RADIX: sets the radix of numbers.
 #[tactic(auto, unfolding(crate::specs::Meaning::radix_step))]
-fn set_radix(table: &Table, walk: &Walk<'_>, front: &mut Reading<'_>) -> Result<(), Fault>
-    ensures { Gives (λ _. (walk.now, front.new)) result (radix_step (scope_of table.now.entries walk.now) walk.now front.old) }
+fn set_radix(walk: &Walk<'_>, front: &mut Reading<'_>) -> Result<(), Fault>
+    ensures { Gives (λ _. (walk.now, front.new)) result (radix_step walk.now front.old) }
 {
     front.swap_radix(10);
-    let Some(value) = value_next(table, walk, front)? else {
-        return Err(BEYOND);
-    };
-    let radix = as_natural(front.alloc(), 10, &value)?;
+    let (radix, rest) = early_natural(10, walk, front)?;
     if radix < 2 {
         return Err(WRONG);
     }
     front.swap_radix(radix as u8);
+    front.set_rest(rest);
     Ok(())
 }
 
@@ -99,8 +113,9 @@ fn form_step(
     ensures { Gives (λ _. (walk.new, front.new)) result (form_step (scope_of table.now.entries walk.old) form walk.old front.old) }
 {
     match form {
-        Form::Loc => set_place(table, walk, front),
-        Form::Radix => set_radix(table, walk, front),
+        Form::Loc => set_place(walk, front),
+        Form::Radix => set_radix(walk, front),
+        Form::Block => put_block(walk, front),
         Form::Lit => place_pool(walk, front),
         Form::End => end(table, walk, front),
         Form::Title | Form::Remark => {
@@ -136,15 +151,6 @@ fn meant_step(
     }
 }
 
-/// What a statement leaves.
-#[tactic(auto, unfolding(crate::specs::Meaning::statement_step))]
-fn statement(table: &Table, walk: &mut Walk<'_>, front: &mut Reading<'_>) -> Result<(), Fault>
-    ensures { Gives (λ _. (walk.new, front.new)) result (statement_step (scope_of table.now.entries walk.old) walk.old front.old) }
-{
-    let meant = meant(front);
-    meant_step(table, meant, walk, front)
-}
-
 /// A text after a character, if it begins with it.
 fn less(c: u8, text: &[u8]) -> &[u8]
     ensures { result.now ≡ less c text.now }
@@ -153,14 +159,6 @@ fn less(c: u8, text: &[u8]) -> &[u8]
         [first, behind @ ..] if *first == c => behind,
         _ => text,
     }
-}
-
-/// A text after the name that it begins with.
-fn behind_word(text: &[u8]) -> &[u8]
-    ensures { result.now ≡ behind_word text.now }
-{
-    let word = &text[..word_len(text)];
-    &text[word.len()..]
 }
 
 /// Whether a text begins with a label.
@@ -176,6 +174,9 @@ fn label(walk: &mut Walk<'_>, front: &mut Reading<'_>) -> Result<(), Fault>
     ensures { Gives (λ _. (walk.new, front.new)) result (label_step walk.old front.old) }
 {
     let name = Symbol::of(front.word()).sixbit();
+    if walk.is_barred(name) {
+        return Err(BEYOND);
+    }
     if !walk.takes_label(name) {
         return Err(WRONG);
     }
@@ -216,40 +217,97 @@ fn assignment(table: &Table, walk: &mut Walk<'_>, front: &mut Reading<'_>) -> Re
     let name = Symbol::of(front.word()).sixbit();
     let text = assigned_text(front.rest());
     front.set_rest(text);
+    let known = is_early(walk, front)?;
     let Some(value) = inside_next(table, walk, front)? else {
         return Err(BEYOND);
     };
     let word = as_word(front.alloc(), &value)?;
+    if walk.is_barred(name) {
+        return Err(BEYOND);
+    }
     if walk.is_label(name) {
         return Err(WRONG);
     }
+    walk.trust(known);
     walk.define(name, word.signed(), false)?;
     Ok(())
 }
 
-/// What an assignment or a statement leaves, which is next.
-fn unlabelled(table: &Table, walk: &mut Walk<'_>, front: &mut Reading<'_>) -> Result<(), Fault>
-    ensures { Gives (λ _. (walk.new, front.new)) result (unlabelled_step (scope_of table.now.entries walk.old) walk.old front.old) }
+/// Whether the end of a line, or a comment, is next.
+fn is_at_end(front: &Reading<'_>) -> bool
+    ensures { result ≡ ends_line (after_blanks front.now.rest) }
 {
-    if is_assignment(front.rest()) {
-        assignment(table, walk, front)
-    } else {
-        statement(table, walk, front)
-    }
+    ends_line(front.behind_blanks())
 }
 
-/// What a label or a statement leaves, which is next.
-#[tactic(auto, unfolding(crate::specs::Meaning::step))]
-pub fn step(table: &Table, walk: &mut Walk<'_>, front: &mut Reading<'_>) -> Result<(), Fault>
-    ensures { Gives (λ _. (walk.new, front.new)) result (step table.now.entries walk.old front.old) }
+/// What a statement leaves by its first name; and the text that it puts in front.
+#[tactic(auto, unfolding(crate::specs::Meaning::named_step))]
+fn named(
+    table: &Table,
+    meant: Option<Meant>,
+    walk: &mut Walk<'_>,
+    front: &mut Reading<'_>,
+) -> Result<Option<Vec<u8>>, Fault>
+    ensures { Gives (λ text. (option_map (λ t. t.items) text, (walk.new, front.new))) result (named_step table.now.entries meant walk.old front.old) }
 {
-    if is_label(front.rest()) {
-        return label(walk, front);
+    if opens(&meant) {
+        return opening(meant, walk, front);
     }
-    unlabelled(table, walk, front)?;
-    if ends_line(front.behind_blanks()) {
-        Ok(())
+    meant_step(table, meant, walk, front)?;
+    if is_at_end(front) {
+        Ok(None)
     } else {
         Err(BEYOND)
     }
+}
+
+/// What an assignment leaves, which is next, with the end of its statement.
+fn assigned(
+    table: &Table,
+    walk: &mut Walk<'_>,
+    front: &mut Reading<'_>,
+) -> Result<Option<Vec<u8>>, Fault>
+    ensures { Gives (λ text. (option_map (λ t. t.items) text, (walk.new, front.new))) result (plain (ended (assignment_step (scope_of table.now.entries walk.old) walk.old front.old))) }
+{
+    assignment(table, walk, front)?;
+    if is_at_end(front) {
+        Ok(None)
+    } else {
+        Err(BEYOND)
+    }
+}
+
+/// What an assignment or a statement leaves, which is next; and the text that it puts in front.
+#[tactic(auto, unfolding(crate::specs::Meaning::unlabelled_step))]
+fn unlabelled(
+    table: &Table,
+    walk: &mut Walk<'_>,
+    front: &mut Reading<'_>,
+) -> Result<Option<Vec<u8>>, Fault>
+    ensures { Gives (λ text. (option_map (λ t. t.items) text, (walk.new, front.new))) result (unlabelled_step table.now.entries walk.old front.old) }
+{
+    if is_assignment(front.rest()) {
+        return assigned(table, walk, front);
+    }
+    if is_call(walk, front.rest()) {
+        return Ok(call(walk, front)?);
+    }
+    let meant = meant(front);
+    named(table, meant, walk, front)
+}
+
+/// What a label or a statement leaves, which is next; and the text that it puts in front.
+#[tactic(auto, unfolding(crate::specs::Meaning::step))]
+pub fn step(
+    table: &Table,
+    walk: &mut Walk<'_>,
+    front: &mut Reading<'_>,
+) -> Result<Option<Vec<u8>>, Fault>
+    ensures { Gives (λ text. (option_map (λ t. t.items) text, (walk.new, front.new))) result (step table.now.entries walk.old front.old) }
+{
+    if !is_label(front.rest()) {
+        return unlabelled(table, walk, front);
+    }
+    label(walk, front)?;
+    Ok(None)
 }

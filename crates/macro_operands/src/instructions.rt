@@ -141,9 +141,25 @@ fn accumulator_bits(state: &mut Assembly, value: Value, place: Place) -> Option<
     Some(Word::low_bits((number as u64) << 23))
 }
 
-/// The fields of an accumulator, which begins at a place.
-pub fn accumulator_fields(state: &mut Assembly, value: Value, place: Place) -> Fields {
-    let bits = accumulator_bits(state, value, place);
+/// The bits of a device.
+fn device_bits(state: &mut Assembly, value: Value, place: Place) -> Option<Word> {
+    let Some(number) = state.known(value) else {
+        return None;
+    };
+    if number < 0 || number > 0o774 || number & 3 != 0 {
+        state.misfit(place, Fault::Device(number));
+        return None;
+    }
+    Some(Word::low_bits((number as u64) << 24))
+}
+
+/// The fields of a device or of an accumulator, which begins at a place.
+pub fn first_fields(state: &mut Assembly, value: Value, is_device: bool, place: Place) -> Fields {
+    let bits = if is_device {
+        device_bits(state, value, place)
+    } else {
+        accumulator_bits(state, value, place)
+    };
     Fields::of_word(bits, false)
 }
 

@@ -14,7 +14,7 @@ pub use elements::{
     text_words, with_byte,
 };
 pub use instructions::{
-    Fields, accumulator_fields, address_fields, eat_comma, eat_commas, eat_indirect, halves_value,
+    Fields, address_fields, eat_comma, eat_commas, eat_indirect, first_fields, halves_value,
     index_bits, is_index_next, need_comma,
 };
 pub use numbers::{

@@ -118,8 +118,10 @@ pub enum Pseudo {
 pub struct Operation {
     /// Its word, where it is known.
     pub word: Option<Word>,
-    /// Whether an accumulator may follow.
+    /// Whether an accumulator may follow, or a device.
     pub accumulator: bool,
+    /// Whether what may follow is a device, and no accumulator.
+    pub device: bool,
     /// Whether an address may follow.
     pub address: bool,
 }

@@ -5,4 +5,4 @@ mod kinds;
 mod tables;
 
 pub use kinds::{BuiltIn, Operation, Pseudo, Test};
-pub use tables::{DIALECT, SUBSET, built_in, of_dialect, of_subset, of_uuosym};
+pub use tables::{DIALECT, SUBSET, built_in, of_dialect, of_others, of_subset, of_uuosym};

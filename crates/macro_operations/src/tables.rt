@@ -1,10 +1,13 @@
 //! The names that are built in.
 
 ghost use Rattle.std.specs.Prelude.{◌≡◌, take};
-ghost use Rattle.macro_operations.specs.Tables.{found_in, known_rows};
+ghost use Rattle.std.specs.Option.{option_map};
+ghost use Rattle.left_out.specs.Words.{other_of};
+ghost use Rattle.macro_operations.specs.Tables.{as_operation, found_in, known_rows};
 
 use crate::kinds::{BuiltIn, Operation, Pseudo, Test};
 use ka_isa::{Named, named, operation_of_key};
+use left_out::{Operands, OtherOperation, other_of};
 use mac_text::TextForm;
 use macro_names::{Name, text_of};
 use word36::Word;
@@ -136,6 +139,7 @@ fn operation(named: Named) -> Option<BuiltIn> {
     Some(BuiltIn::Operation(Operation {
         word: Some(named.word),
         accumulator: named.ac,
+        device: false,
         address: named.addr,
     }))
 }
@@ -176,6 +180,7 @@ pub fn of_dialect(name: Name) -> Option<BuiltIn> {
         Some(word) => Some(BuiltIn::Operation(Operation {
             word: Some(Word::low_bits(word)),
             accumulator: word / 0o1_000_000_000 != 0o255,
+            device: false,
             address: true,
         })),
         None => None,
@@ -187,6 +192,32 @@ pub fn built_in(name: Name) -> Option<BuiltIn> {
     match of_subset(name) {
         Some(built_in) => Some(built_in),
         None => of_dialect(name),
+    }
+}
+
+/// An operation or a call of another machine or another monitor, as an instruction.
+fn as_operation(other: OtherOperation) -> Operation
+    ensures { result ≡ as_operation other }
+{
+    let operands = other.operands;
+    let is_full = operands == Operands::Full;
+    let is_device = operands == Operands::Device;
+    Operation {
+        word: Some(Word::low_bits(other.word)),
+        accumulator: is_full || is_device || operands == Operands::Accumulator,
+        device: is_device,
+        address: is_full || is_device || operands == Operands::Address,
+    }
+}
+
+/// The operation or the call of another machine or another monitor that has this name; of the name the characters that count are given, in
+/// upper case.
+pub fn of_others(name: &[u8]) -> Option<Operation>
+    ensures { result ≡ option_map as_operation (other_of name.now) }
+{
+    match other_of(name) {
+        Some(other) => Some(as_operation(other)),
+        None => None,
     }
 }
 

@@ -13,5 +13,5 @@ mod written;
 pub use cross::push_cross;
 pub use listings::push_listing;
 pub use plain::{Plain, plain_source};
-pub use reports::push_faults;
+pub use reports::{push_faults, push_warnings};
 pub use written::{Written, source_of};

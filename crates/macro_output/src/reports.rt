@@ -3,10 +3,14 @@ ghost use Rattle.std.specs.Prelude.{IfOk};
 ghost use Rattle.macro_output.specs.Listings.{InOrder};
 
 use joined_files::{Part, part_of};
-use macro_faults::{Report, Spot, push_report};
-use macro_state::Assembly;
+use ka_isa::{Family, classify, decode, mnemonic};
+use macro_faults::{Fault, Report, Spot, push_around_place, push_report, push_words};
+use macro_names::text_of;
+use macro_operations::of_others;
+use macro_state::{Assembly, OtherUse};
 use script_io::push_decimal;
 use std::alloc::{AllocError, Global};
+use word36::Word;
 
 /// How many faults are written.
 const MOST_WRITTEN: usize = 20;
@@ -72,6 +76,63 @@ pub fn push_faults(
         let spot = spot_of(parts, report.place.line);
         push_report(out, report, spot, state.stream.around(), source)?;
         written += 1;
+    }
+    Ok(())
+}
+
+/// Whether a job stops at a word that is an operation or a call of another machine or another monitor, and whose fields no operand changes.
+fn stops(word: Word) -> bool {
+    let fields = decode(word);
+    match classify(fields.op) {
+        Family::Other | Family::Calli | Family::Ttcall => true,
+        Family::Jrst => fields.ac != 0 && fields.ac != 2 && fields.ac != 4,
+        _ => false,
+    }
+}
+
+/// Adds what the machine does at the word of a use; nothing of a number that is no operation.
+fn push_effect(out: &mut Vec<u8>, other: &OtherUse) -> Result<(), AllocError> {
+    let Some(operation) = of_others(text_of(other.name).as_slice()) else {
+        return Ok(());
+    };
+    let word = operation.word.unwrap_or(Word::new(0));
+    let op = decode(word).op;
+    if op == 0 {
+        return Ok(());
+    }
+    if stops(word) {
+        return out.extend_from_slice(b" (a job that gets to it stops there: illegal instruction)");
+    }
+    out.extend_from_slice(b" (a job carries out its word, which is that of ")?;
+    out.extend_from_slice(mnemonic(op).unwrap_or("").as_bytes())?;
+    out.push(b')')?;
+    Ok(())
+}
+
+/// Adds a line for each use of an operation or a call of another machine or another monitor, and the texts around it. `parts` are the files of
+/// the source.
+pub fn push_warnings(
+    out: &mut Vec<u8>,
+    state: &Assembly,
+    source: &[u8],
+    parts: &[Part],
+) -> Result<(), AllocError> {
+    for other in &state.others {
+        let spot = spot_of(parts, other.place.line);
+        out.extend_from_slice(b"%MACRO ")?;
+        if let Some(file) = spot.file {
+            out.extend_from_slice(file.as_bytes())?;
+            out.push(b':')?;
+        }
+        push_decimal(out, spot.line)?;
+        out.push(b':')?;
+        push_decimal(out, other.place.column)?;
+        out.push(b' ')?;
+        let fault = Fault::LeftOut(other.name, other.reason, true);
+        push_words(out, fault, source, other.place.line)?;
+        push_effect(out, other)?;
+        out.push(b'\n')?;
+        push_around_place(out, other.place, state.stream.around(), source)?;
     }
     Ok(())
 }

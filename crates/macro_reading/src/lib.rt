@@ -5,6 +5,7 @@
 
 mod calls;
 mod conditions;
+mod others;
 mod pseudo;
 mod searches;
 mod statements;

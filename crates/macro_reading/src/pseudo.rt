@@ -1,6 +1,7 @@
 //! Pseudo-operations that give no words.
 
 use crate::calls::define;
+use crate::others::other_operation;
 use crate::searches::{linking, search, segments};
 use crate::terms::unknown_name;
 use macro_faults::Fault;
@@ -203,6 +204,10 @@ fn syn(state: &mut Assembly, what: Name) {
     }
     if built_in(of).is_some() {
         return state.put_meaning(name, Meaning::Synonym(of));
+    }
+    if let Some(operation) = other_operation(state, of, of_place) {
+        let number = operation.word.map(Word::number);
+        return state.put_meaning(name, Meaning::Opdef(number));
     }
     same_symbol(state, of, name, of_place)
 }

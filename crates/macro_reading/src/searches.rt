@@ -32,8 +32,8 @@ pub fn searched_value(state: &mut Assembly, name: Name, place: Place) -> Option<
     Some(Value::of_word(Some(Word::low_bits(number)), false))
 }
 
-/// Whether the source itself has this name.
-fn is_own(state: &Assembly, name: Name) -> bool {
+/// Whether the source itself gives this name a meaning.
+pub fn is_own(state: &Assembly, name: Name) -> bool {
     state.is_soft(name) || state.symbols.get(name).is_some() || state.meanings.get(name).is_some()
 }
 

@@ -1,5 +1,6 @@
 //! Terms: names, brackets, literals.
 
+use crate::others::other_operation;
 use crate::searches::{is_searched, need_external, searched_value};
 use crate::statements::is_label_use;
 use left_out::left_out;
@@ -69,6 +70,9 @@ fn other_value(state: &mut Assembly, name: Name, place: Place) -> Value {
         if let Some(value) = searched_value(state, name, place) {
             return value;
         }
+    }
+    if let Some(operation) = other_operation(state, name, place) {
+        return Value::of_word(operation.word, false);
     }
     not_known(state, name, place);
     Value::unknown(false)
@@ -290,15 +294,18 @@ pub enum Meant {
     Pseudo(Pseudo),
 }
 
-/// What a name stands for: this operation or, where there is none, a value.
+/// What a name stands for: this operation or, if there is none, one of another machine or another monitor, or else a value.
 fn meant_by(state: &mut Assembly, name: Name, place: Place, operation: Option<BuiltIn>) -> Meant {
     match operation {
         Some(BuiltIn::Operation(operation)) => Meant::Operation(operation),
         Some(BuiltIn::Pseudo(pseudo)) => Meant::Pseudo(pseudo),
-        None => {
-            hold_name(state, name, place);
-            Meant::Value
-        }
+        None => match other_operation(state, name, place) {
+            Some(operation) => Meant::Operation(operation),
+            None => {
+                hold_name(state, name, place);
+                Meant::Value
+            }
+        },
     }
 }
 

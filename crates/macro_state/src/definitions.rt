@@ -2,8 +2,8 @@
 
 use crate::state::Assembly;
 use macro_faults::Fault;
-use macro_names::Name;
-use macro_operations::{BuiltIn, Operation, built_in};
+use macro_names::{Name, text_of};
+use macro_operations::{BuiltIn, Operation, built_in, of_others};
 use macro_stream::Place;
 use macro_symbols::{Definition, DefinitionKind, Meaning};
 use word36::Word;
@@ -198,6 +198,7 @@ impl Assembly {
             Some(Meaning::Opdef(number)) => Some(BuiltIn::Operation(Operation {
                 word: number.map(Word::low_bits),
                 accumulator: true,
+                device: false,
                 address: true,
             })),
             Some(Meaning::Synonym(target)) => built_in(target),
@@ -212,6 +213,9 @@ impl Assembly {
             Some(definition) => definition.value.is_some(),
             None => false,
         };
-        has_value || self.meanings.get(name).is_some() || self.operation_of(name).is_some()
+        has_value
+            || self.meanings.get(name).is_some()
+            || self.operation_of(name).is_some()
+            || self.takes_others && of_others(text_of(name).as_slice()).is_some()
     }
 }

@@ -1,10 +1,12 @@
 //! What is reported of a source.
 
 ghost use Rattle.std.specs.Prelude.{◌≡◌, ◌↔◌, None, Some, IsSome, IsTrue, OnOk};
-ghost use Rattle.macro_state.specs.Faults.{is_told_at};
+ghost use Rattle.macro_state.specs.Faults.{is_told_at, is_used_at};
 
-use crate::state::Assembly;
+use crate::state::{Assembly, OtherUse};
+use left_out::Reason;
 use macro_faults::{Failure, Fault, Report};
+use macro_names::Name;
 use macro_stream::{Limit, Place, Stop};
 use std::alloc::AllocError;
 
@@ -14,6 +16,21 @@ fn is_reported(faults: &[Report], place: Place) -> bool
 {
     for report in faults {
         if report.place.line == place.line && report.place.column == place.column {
+            return true;
+        }
+    }
+    false
+}
+
+/// Whether a use of a name at this place is kept already.
+fn is_used(others: &[OtherUse], place: Place, name: Name) -> bool
+    ensures { result ≡ is_used_at others.now place name.sixbit }
+{
+    for other in others {
+        if other.name.sixbit() == name.sixbit()
+            && other.place.line == place.line
+            && other.place.column == place.column
+        {
             return true;
         }
     }
@@ -45,6 +62,7 @@ impl Assembly {
         ensures numbers { self.new.numbers ≡ self.old.numbers }
         ensures faults { self.new.faults ≡ self.old.faults }
         ensures marked { self.new.told ≡ self.old.told }
+        ensures others { self.new.others ≡ self.old.others }
     {
         self.failure = Some(Failure::Memory);
     }
@@ -55,6 +73,7 @@ impl Assembly {
         ensures marked { self.new.told ≡ self.old.told }
         ensures numbers { self.new.numbers ≡ self.old.numbers }
         ensures faults { self.new.faults ≡ self.old.faults }
+        ensures others { self.new.others ≡ self.old.others }
     {
         if !done {
             self.out_of_memory()
@@ -168,6 +187,26 @@ impl Assembly {
             fault,
         })?;
         Ok(())
+    }
+
+    /// Keeps that an operation or a call of another machine or another monitor is used, in the second pass; once for a place.
+    pub fn note_other(&mut self, place: Place, name: Name, reason: Reason)
+        ensures first { (self.old.pass ≡ 2 → ⊥) → self.new ≡ self.old }
+        ensures noted { self.old.pass ≡ 2 → self.new.failure ≡ None → IsTrue (is_used_at self.new.others.items place name.sixbit) }
+        ensures failed { self.new.failure ≡ None → self.old.failure ≡ None }
+    {
+        if self.pass != 2 || self.is_failed() || is_used(self.others.as_slice(), place, name) {
+            return;
+        }
+        let done = self
+            .others
+            .push(OtherUse {
+                place,
+                name,
+                reason,
+            })
+            .is_ok();
+        self.kept(done);
     }
 
     /// Keeps that something has another place in the second pass.

@@ -10,5 +10,5 @@ mod state;
 mod values;
 
 pub use listing::{Expanded, Listing, Row, Use};
-pub use state::{Assembly, PlacedPool, PoolLabel, Sign};
+pub use state::{Assembly, OtherUse, PlacedPool, PoolLabel, Sign};
 pub use values::Value;

@@ -1,6 +1,7 @@
 //! The state of an assembly.
 
 use crate::listing::Listing;
+use left_out::Reason;
 use macro_faults::{Failure, Report};
 use macro_names::Name;
 use macro_stream::{Limit, Place, Range, Stream};
@@ -27,6 +28,17 @@ pub struct PlacedPool {
     pub first: u32,
     /// How many there are.
     pub words: u32,
+}
+
+/// A use of an operation or a call of another machine or another monitor.
+#[derive(Clone, Copy)]
+pub struct OtherUse {
+    /// The place of the use.
+    pub place: Place,
+    /// Its name.
+    pub name: Name,
+    /// Why it is not here.
+    pub reason: Reason,
 }
 
 /// `-` or `^-` before a value.
@@ -69,6 +81,11 @@ pub struct Assembly {
     pub assumed_labels: Vec<Name>,
     /// Whether SEARCH UUOSYM was read.
     pub uuosym: bool,
+    /// Whether operations and calls of other machines and monitors are taken for their words, if the source gives their names no
+    /// meaning.
+    pub takes_others: bool,
+    /// The uses of these in the second pass.
+    pub others: Vec<OtherUse>,
     /// The address of the next word.
     pub counter: i64,
     /// Whether LOC set it last.
@@ -166,6 +183,8 @@ impl Assembly {
             dummies: Vec::new(alloc),
             assumed_labels: Vec::new(alloc),
             uuosym: false,
+            takes_others: false,
+            others: Vec::new(alloc),
             counter: FIRST,
             absolute: false,
             kept_absolute: 0,

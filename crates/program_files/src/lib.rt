@@ -6,6 +6,7 @@ mod from_option;
 mod macro_sources;
 mod names;
 mod programs;
+mod recorded;
 mod reports;
 mod several;
 
@@ -13,4 +14,5 @@ pub use files::{ProgramFile, inputs_in, read_files};
 pub use from_option::{make_from, packing_in};
 pub use names::is_image_name;
 pub use programs::read_program;
+pub use recorded::{NotRecorded, are_recordable, not_recorded, push_programs};
 pub use several::read_programs;

@@ -132,7 +132,7 @@ pub fn assemble_macro<'a>(
 ) -> Result<Assembled<'a>, AllocError>
     ensures { HandsOver result }
 {
-    let state = assemble(alloc, file.source.text.as_slice())?;
+    let state = assemble(alloc, file.source.text.as_slice(), false)?;
     let answer = answer_of(&state, file, most);
     let_go(state);
     answer

@@ -1,6 +1,7 @@
 //! Instructions in words.
 
 use ka_isa::{Family, Fields, classify, decode, mnemonic, text_of};
+use left_out::name_of;
 use source_labels::{Places, Spot, nearest};
 use std::fmt;
 use word36::{Address, Word};
@@ -265,7 +266,17 @@ fn illegal_kind(fields: Fields) -> &'static str {
     }
 }
 
-/// An instruction that the processor refused as illegal: as a person reads it, its word and its kind.
+/// The name that the manuals give an instruction that is not here, if its word alone says which it is; else empty.
+fn manuals_name(fields: Fields) -> &'static str {
+    if fields.op == 0o47 && (fields.i || fields.x != 0) {
+        ""
+    } else {
+        name_of(fields.op, fields.ac, fields.y)
+    }
+}
+
+/// An instruction that the processor refused as illegal: as a person reads it, its word, its kind, and the name that the manuals give
+/// it, if they have one.
 #[derive(Clone, Copy, Debug)]
 pub struct IllegalText<'a> {
     /// The program's labels and literals.
@@ -283,7 +294,12 @@ impl fmt::Display for IllegalText<'_> {
             write!(f, "{instruction}, ")?;
         }
         let (octal, kind) = (word.octal(), illegal_kind(fields));
-        write!(f, "{}, {kind}", octal.as_str())
+        write!(f, "{}, {kind}", octal.as_str())?;
+        let name = manuals_name(fields);
+        if name.is_empty() {
+            return Ok(());
+        }
+        write!(f, ": {name}")
     }
 }
 

@@ -2,6 +2,7 @@
 use Rattle.std.specs.Prelude.{◌≡◌, ℕ, List, Vec, Option, Some, None, Result, Ok, Err, IsErr}
 use Rattle.mac_layout.specs.Faults.{Fault}
 use Rattle.mac_asm.specs.Assembly as assembly
+use Rattle.source_labels.specs.Places.{ArePlacesOf}
 use Rattle.source_labels.specs.declared.sources.Program.{Program}
 use Rattle.source_labels.specs.declared.sources.Tried.{Tried}
 use Rattle.source_labels.specs.declared.sources.Tried.TheVariants as variants
@@ -18,6 +19,11 @@ AssemblesTo (Err e) outcome = Unit {0}
 abbrev pub KeepsOwn : Tried → Type 0
 KeepsOwn (variants.Program program) = program.written ≡ None
 KeepsOwn variants.Refused = Unit {0}
+
+-- a program has the labels and literals of its source
+abbrev pub HasPlacesOf : List ℕ → Tried → Type 0
+HasPlacesOf source (variants.Program program) = ArePlacesOf program.places source program.image.words.items
+HasPlacesOf source variants.Refused = Unit {0}
 
 -- the bytes of a text that was written, or else these
 abbrev pub written_or : {A : Type 0} → List ℕ → Option (Vec ℕ A) → List ℕ

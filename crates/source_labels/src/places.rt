@@ -1,5 +1,8 @@
 //! The labels and the literals of a source, with their addresses.
 
+ghost use Rattle.std.specs.Prelude.{◌≡◌, ◌<◌, ◌^◌, [], ◌++◌, IfOk, OnOk, if◌then◌else◌, map};
+ghost use Rattle.source_labels.specs.Places.{ArePlaces, AreAdded, ends_block, labels_at, literals_of, run_end, with_end};
+
 use crate::labels::{Label, write_name};
 use mac_layout::{Layout, MEMORY_SIZE, clamped};
 use mac_text::{Line, Statement};
@@ -12,7 +15,7 @@ use word36::{Address, Image, Word};
 pub struct Literals {
     /// The address of END, where the literals begin.
     pub first: u32,
-    /// The address behind them; `first` where there are no literals.
+    /// The address after them; `first` where there are no literals.
     pub end: u32,
 }
 
@@ -75,44 +78,99 @@ impl Literals {
 /// The labels so far. It is not yet known where the current block ends.
 #[derive(Drop)]
 struct Gathered {
-    labels: Vec<Label>,
-    /// How many of them stand in blocks that ended.
-    closed: usize,
+    /// Those of blocks that ended.
+    closed: Vec<Label>,
+    /// Those of the current block.
+    current: Vec<Label>,
+    /// The address of the last LOC or END; 0 before the first.
+    end: u32,
 }
 
 impl Gathered {
     /// Adds the labels of a line at this address.
-    fn add(&mut self, line: &Line, place: u32) -> Result<(), AllocError> {
+    fn add(&mut self, line: &Line, place: u32) -> Result<(), AllocError>
+        ensures closed { self.new.closed ≡ self.old.closed }
+        ensures current { OnOk result (self.new.current.items ≡ self.old.current.items ++ labels_at place 0 line.now.labels) }
+        ensures end { self.new.end ≡ self.old.end }
+    {
         let Some(place) = Address::try_new(place) else {
             return Ok(());
         };
-        for symbol in line.labels.as_slice() {
+        let symbols = line.labels.as_slice();
+        'symbols: for symbol in symbols {
             let name = symbol.sixbit();
             let end = place.number() + 1;
-            self.labels.push(Label { name, place, end })?;
+            self.current.push(Label { name, place, end })?;
         }
         Ok(())
     }
 
     /// Ends the current block at this address.
-    fn close(&mut self, end: u32) {
-        let closed = self.closed;
-        for label in self.labels.as_mut_slice().iter_mut().skip(closed) {
-            label.end = label.end.max(end);
+    fn close(&mut self, end: u32) -> Result<(), AllocError>
+        ensures closed { OnOk result (self.new.closed.items ≡ self.old.closed.items ++ map (with_end end) self.old.current.items) }
+        ensures current { OnOk result (self.new.current.items ≡ []) }
+        ensures end { self.new.end ≡ self.old.end }
+    {
+        'labels: for i in 0..self.current.len() {
+            let label = self.current[i];
+            self.closed.push(Label {
+                name: label.name,
+                place: label.place,
+                end: label.end.max(end),
+            })?;
         }
-        self.closed = self.labels.len();
+        self.current.clear();
+        Ok(())
+    }
+
+    /// Adds the labels of a line at this address, and ends the block there if the line is LOC or END.
+    fn add_line(&mut self, line: &Line, place: u32) -> Result<(), AllocError>
+        ensures labels { OnOk result (AreAdded (ends_block line.now.statement) place self.old.closed.items
+            (self.old.current.items ++ labels_at place 0 line.now.labels) self.new.closed.items self.new.current.items) }
+        ensures end { OnOk result (self.new.end ≡ (if ends_block line.now.statement then place else self.old.end)) }
+    {
+        self.add(line, place)?;
+        if ends_block(line) {
+            self.close(place)?;
+            self.end = place;
+        }
+        Ok(())
     }
 }
 
-/// The address behind the words that stand from `first` on without a gap.
-fn end_of_run(image: &Image, first: u32) -> u32 {
+/// Whether a line ends a block of labels: it is LOC or END.
+fn ends_block(line: &Line) -> bool
+    ensures { result ≡ ends_block line.now.statement }
+{
+    matches!(&line.statement, Some(Statement::Loc(_) | Statement::End(_)))
+}
+
+/// The address after the words that stand from `first` on without a gap.
+fn end_of_run(image: &Image, first: u32) -> u32
+    ensures { result ≡ run_end first image.now.words.items }
+{
     let mut end = first;
-    for (place, _) in image.words.as_slice() {
+    'words: for (place, _) in image.words.as_slice() {
         if *place == end {
             end = end.saturating_add(1);
         }
     }
     end
+}
+
+/// The literals of a source that begin at an address, if it has any.
+fn literals_of(layout: &Layout, image: &Image, first: u32) -> Literals
+    ensures { result ≡ literals_of first layout.now.literals.items image.now.words.items }
+{
+    let has_none = layout.literals.as_slice().is_empty();
+    Literals {
+        first,
+        end: if has_none {
+            first
+        } else {
+            end_of_run(image, first)
+        },
+    }
 }
 
 /// The labels and the literals of a source, by its lines, their layout and the image that they make.
@@ -121,31 +179,25 @@ pub fn places_of(
     lines: &[Line],
     layout: &Layout,
     image: &Image,
-) -> Result<Places, AllocError> {
+) -> Result<Places, AllocError>
+    ensures { IfOk result (λ places. ArePlaces places lines.now layout.now.addresses.items layout.now.literals.items image.now.words.items) }
+{
     let mut gathered = Gathered {
-        labels: Vec::new(alloc),
-        closed: 0,
+        closed: Vec::new(alloc),
+        current: Vec::new(alloc),
+        end: 0,
     };
-    let mut end = 0;
-    for (line, place) in lines.iter().zip(layout.addresses.as_slice()) {
-        let place = clamped(place, MEMORY_SIZE) as u32;
-        gathered.add(line, place)?;
-        if let Some(Statement::Loc(_) | Statement::End(_)) = &line.statement {
-            gathered.close(place);
-            end = place;
-        }
+    let addresses = layout.addresses.as_slice();
+    let most = lines.len().min(addresses.len());
+    'lines: for i in 0..most {
+        let place = clamped(&addresses[i], MEMORY_SIZE) as u32;
+        gathered.add_line(&lines[i], place)?;
     }
-    let has_literals = !layout.literals.as_slice().is_empty();
+    gathered.close(0)?;
+    let literals = literals_of(layout, image, gathered.end);
     Ok(Places {
-        labels: gathered.labels,
-        literals: Literals {
-            first: end,
-            end: if has_literals {
-                end_of_run(image, end)
-            } else {
-                end
-            },
-        },
+        labels: gathered.closed,
+        literals,
         pools: Vec::new(alloc),
         numbers: Vec::new(alloc),
     })

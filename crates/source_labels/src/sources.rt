@@ -1,7 +1,8 @@
 //! Sources, and what they are assembled to.
 ghost use Rattle.std.specs.Prelude.{◌≡◌, None, IfOk};
 ghost use Rattle.mac_asm.specs.Outcome.{outcome_of};
-ghost use Rattle.source_labels.specs.Programs.{AssemblesTo, source_for, KeepsOwn};
+ghost use Rattle.source_labels.specs.Places.{ArePlacesOf};
+ghost use Rattle.source_labels.specs.Programs.{AssemblesTo, HasPlacesOf, source_for, KeepsOwn};
 
 use crate::places::{Places, places_of};
 use mac_asm::{AsmError, assemble};
@@ -66,7 +67,9 @@ pub enum Tried<'a> {
 
 /// The labels and literals of a source of which this is the image. It is in the grammar and laid out, as it was
 /// assembled, so that only memory can be missing.
-pub fn places_in(alloc: Global, text: &[u8], image: &Image) -> Result<Places, AllocError> {
+pub fn places_in(alloc: Global, text: &[u8], image: &Image) -> Result<Places, AllocError>
+    ensures { IfOk result (λ places. ArePlacesOf places text.now image.now.words.items) }
+{
     let Ok(lines) = parse(alloc, text) else {
         return Err(AllocError);
     };
@@ -80,6 +83,7 @@ pub fn places_in(alloc: Global, text: &[u8], image: &Image) -> Result<Places, Al
 pub fn assemble_source<'a>(alloc: Global, source: &Source<'a>) -> Result<Tried<'a>, AllocError>
     ensures outcome { AssemblesTo result (outcome_of source.now.text.items) }
     ensures own { IfOk result KeepsOwn }
+    ensures places { IfOk result (HasPlacesOf source.now.text.items) }
 {
     let text = source.text.as_slice();
     match assemble(alloc, text) {

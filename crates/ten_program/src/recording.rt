@@ -3,11 +3,8 @@ ghost use Rattle.std.specs.Prelude.{◌≤◌};
 ghost use Rattle.run_record.specs.declared.pieces.TheConstants.{MOST_ROUNDS};
 
 use machine::Config;
-use program_files::{ProgramFile, is_image_name};
-use program_shell::PendingText;
-use run_record::{
-    EventSequence, RunEvent, push_end, push_head, push_pieces, push_program, unquotable_line,
-};
+use program_files::{ProgramFile, push_programs};
+use run_record::{EventSequence, RunEvent, push_end, push_head, push_pieces};
 use source_labels::Program;
 use std::alloc::{AllocError, Global};
 
@@ -77,57 +74,4 @@ impl Recording {
             }
         }
     }
-}
-
-/// Adds the sources that programs stand for, as programs that are numbered from 1.
-fn push_programs(
-    script: &mut Vec<u8>,
-    sources: &[ProgramFile<'_>],
-    programs: &[Program<'_>],
-) -> Result<(), AllocError> {
-    let mut number = 0u8;
-    for (source, program) in sources.iter().zip(programs) {
-        number = number.saturating_add(1);
-        let text = program.source_for(source.source.text.as_slice());
-        push_program(script, number, source.source.file, text)?;
-    }
-    Ok(())
-}
-
-/// Whether the source that a program stands for can stand in a script; reports why it cannot.
-fn is_quotable(source: &ProgramFile<'_>, program: &Program<'_>, errors: &mut PendingText) -> bool {
-    let (alloc, file) = (errors.alloc, source.source.file);
-    if is_image_name(file) {
-        errors.say_made(format!(in alloc;
-            "{file}: not recorded: a script has no core images, but `image source` writes a source from one\n"
-        ));
-        return false;
-    }
-    match unquotable_line(program.source_for(source.source.text.as_slice())) {
-        None => true,
-        Some(line) => {
-            let reason = line.reason;
-            let (file, number) = match program.written {
-                None => source.spot(line.number),
-                Some(_) => (file, line.number),
-            };
-            errors.say_made(format!(in alloc;
-                "{file}:{number}: not recorded: the line {reason}\n"
-            ));
-            false
-        }
-    }
-}
-
-/// Whether the sources that programs stand for can all stand in a script; reports of each that cannot why.
-pub fn are_quotable(
-    sources: &[ProgramFile<'_>],
-    programs: &[Program<'_>],
-    errors: &mut PendingText,
-) -> bool {
-    let mut are_quotable = true;
-    for (source, program) in sources.iter().zip(programs) {
-        are_quotable &= is_quotable(source, program, errors);
-    }
-    are_quotable
 }

@@ -8,14 +8,14 @@ use crate::loading::log_in_all;
 use crate::notes::Notes;
 use crate::options::Options;
 use crate::picture::Picture;
-use crate::recording::{Recording, are_quotable};
+use crate::recording::Recording;
 use crate::terminal::Terminal;
 use crate::typing::Typing;
 use crate::waits::Waits;
 use concrete_machine::Machine;
 use machine::MOST_TAKES;
 use monitor::{Answer, Event};
-use program_files::{ProgramFile, read_programs};
+use program_files::{ProgramFile, are_recordable, read_programs};
 use program_shell::PendingText;
 use run_events::{Fact, RoundsMade};
 use run_facts::{Cut, Ending, UNASKED_CUT, has_ended_well, status_of};
@@ -126,7 +126,7 @@ impl Session {
             return false;
         };
         let made = programs.as_slice();
-        if options.record.is_some() && !are_quotable(sources, made, &mut self.errors) {
+        if options.record.is_some() && !are_recordable(sources, made, &mut self.errors) {
             return false;
         }
         let recording = &mut self.recording;

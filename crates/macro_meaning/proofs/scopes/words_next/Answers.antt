@@ -1,7 +1,7 @@
 use Rattle.std.proofs.Common.{subst}
 use Rattle.macro_expressions.specs.Reading.{Gives}
 use Rattle.macro_expressions.specs.Values.{Names}
-use Rattle.macro_meaning.specs.Words.{words_by, scope_with}
+use Rattle.macro_statements.specs.Words.{words_by, scope_with}
 use Rattle.macro_meaning.proofs.scopes.words_next.Goals as goal
 
 pub returns : goal.returns

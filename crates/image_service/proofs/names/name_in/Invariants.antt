@@ -1,7 +1,0 @@
-use Rattle.std.proofs.Common.{◌≡◌, drop}
-use Rattle.image_service.specs.Names.{name_in, rows_of}
-use Rattle.image_service.proofs.names.name_in.Given as goal
-
--- the name is that of the rows from here on
-abbrev pub invariant-loop-known : goal.invariant-loop-known
-invariant-loop-known l = name_in (rows_of (drop l.known-index l.rows)) l.number ≡ name_in (rows_of l.rows) l.number

@@ -1,5 +1,0 @@
-use Rattle.macro_meaning.proofs.data.+elements.Given as goal
-
--- fewer words may come
-abbrev pub decreases-elements : goal.decreases-elements
-decreases-elements g l = l.most

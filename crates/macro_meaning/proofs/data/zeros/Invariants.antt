@@ -1,6 +1,0 @@
-use Rattle.std.proofs.Common.{◌≡◌, replicate}
-use Rattle.macro_meaning.proofs.data.zeros.Given as goal
-
--- so many words so far
-abbrev pub invariant-loop : goal.invariant-loop
-invariant-loop l = l.words.items ≡ replicate l.counter 0

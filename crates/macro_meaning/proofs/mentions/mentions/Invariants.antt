@@ -1,7 +1,0 @@
-use Rattle.std.proofs.Common.{◌≡◌, drop, false}
-use Rattle.macro_meaning.specs.Meaning.{mentions}
-use Rattle.macro_meaning.proofs.mentions.mentions.Given as goal
-
--- no word so far says something of what comes before it
-abbrev pub invariant-loop-i : goal.invariant-loop-i
-invariant-loop-i l = mentions l.in_comment l.in_name (drop l.i l.source) ≡ mentions false false l.source

@@ -1,5 +1,0 @@
-use Rattle.macro_meaning.proofs.texts.+packed.Given as goal
-
--- fewer words come
-abbrev pub decreases-packed : goal.decreases-packed
-decreases-packed l = l.count
