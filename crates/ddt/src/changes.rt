@@ -3,7 +3,7 @@
 use crate::examining::{open, put_mask};
 use crate::runs::run_from_start;
 use crate::session::Session;
-use ddt_commands::{Refusal, first_character};
+use ddt_commands::{CommandError, first_character};
 use ddt_moves::{interrupt, take_line, type_line};
 use ddt_show::refuse;
 use ddt_timeline::{Entry, Timeline};
@@ -14,7 +14,7 @@ use word36::{Address, Word};
 /// A value: deposits it at the open address, and closes that.
 pub fn deposit(session: &mut Session, timeline: &mut Timeline, word: Word) {
     if !session.is_open {
-        return refuse(&mut session.answer, Refusal::NotOpen);
+        return refuse(&mut session.answer, CommandError::NotOpen);
     }
     if session.is_mask {
         return put_mask(session, word);
@@ -24,7 +24,7 @@ pub fn deposit(session: &mut Session, timeline: &mut Timeline, word: Word) {
         .peek(session.open, session.here)
         .is_none()
     {
-        return refuse(&mut session.answer, Refusal::NoWord);
+        return refuse(&mut session.answer, CommandError::NoWord);
     }
     session.input.forget(timeline.happened());
     let entry = Entry::Deposit(session.open, session.here, word);
@@ -52,12 +52,12 @@ pub fn make(answer: &mut PendingText, timeline: &mut Timeline, entry: Entry) {
 /// `a$G`: starts the open job at an address, and runs.
 pub fn start_at(session: &mut Session, timeline: &mut Timeline, address: u32) {
     let Some(address) = Address::try_new(address) else {
-        return refuse(&mut session.answer, Refusal::NoWord);
+        return refuse(&mut session.answer, CommandError::NoWord);
     };
     session.input.forget(timeline.happened());
     match interrupt(timeline, session.open) {
         Ok(true) => {}
-        Ok(false) => return refuse(&mut session.answer, Refusal::Gone),
+        Ok(false) => return refuse(&mut session.answer, CommandError::Gone),
         Err(_) => return session.answer.fail(),
     }
     match timeline.make(Entry::StartAt(session.open, address)) {
@@ -87,19 +87,19 @@ fn type_spelled(
     timeline: &mut Timeline,
     line: u8,
     text: &[u8],
-) -> Result<Option<Refusal>, AllocError> {
+) -> Result<Option<CommandError>, AllocError> {
     // Job 1 is at line 0, job 2 at line 1, and so on.
     if timeline.machine().job(line.saturating_add(1)).is_none() {
-        return Ok(Some(Refusal::NoJobAtLine));
+        return Ok(Some(CommandError::NoJobAtLine));
     }
     let mut bytes = Vec::new(timeline.alloc());
     if !push_spelled(&mut bytes, text)? {
-        return Ok(Some(Refusal::NoCharacter));
+        return Ok(Some(CommandError::NoCharacter));
     }
     if type_line(timeline, line, bytes.as_slice())? {
         Ok(None)
     } else {
-        Ok(Some(Refusal::LineFull))
+        Ok(Some(CommandError::LineFull))
     }
 }
 

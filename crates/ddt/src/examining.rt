@@ -1,7 +1,7 @@
 //! Addresses that are opened, and quantities that are shown.
 
 use crate::session::Session;
-use ddt_commands::{Opening, OutputMode, Refusal, Retype};
+use ddt_commands::{CommandError, Opening, OutputMode, Retype};
 use ddt_show::{refuse, word_line};
 use ddt_timeline::Timeline;
 use word36::Word;
@@ -9,7 +9,7 @@ use word36::Word;
 /// `a/` and the like: opens an address of the open job, and shows the word there.
 pub fn open(session: &mut Session, timeline: &Timeline, address: u32) {
     if !session.show_address(timeline, address) {
-        return refuse(&mut session.answer, Refusal::NoWord);
+        return refuse(&mut session.answer, CommandError::NoWord);
     }
     session.here = address;
     session.is_open = true;
@@ -39,7 +39,7 @@ pub fn open_as(session: &mut Session, timeline: &Timeline, address: u32, opening
 /// Opens an address of the open job, and does not show the word there.
 fn open_unseen(session: &mut Session, timeline: &Timeline, address: u32) {
     let Some(word) = timeline.machine().peek(session.open, address) else {
-        return refuse(&mut session.answer, Refusal::NoWord);
+        return refuse(&mut session.answer, CommandError::NoWord);
     };
     session.last = word;
     session.here = address;
@@ -78,11 +78,11 @@ pub fn evaluate(session: &mut Session, value: Word, retype: Retype) {
 /// `.EX a-b`: shows the words from the first address to the last.
 pub fn examine(session: &mut Session, timeline: &Timeline, first: u32, last: u32) {
     if last < first {
-        return refuse(&mut session.answer, Refusal::WrongOrder);
+        return refuse(&mut session.answer, CommandError::WrongOrder);
     }
     for address in first..last.saturating_add(1) {
         if !session.show_address(timeline, address) {
-            return refuse(&mut session.answer, Refusal::NoWord);
+            return refuse(&mut session.answer, CommandError::NoWord);
         }
         session.here = address;
     }

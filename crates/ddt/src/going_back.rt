@@ -2,7 +2,7 @@
 
 use crate::run_ends::say_turn;
 use crate::session::Session;
-use ddt_commands::Refusal;
+use ddt_commands::CommandError;
 use ddt_moves::{last_at, last_write, turn_at};
 use ddt_show::refuse;
 use ddt_timeline::Timeline;
@@ -15,7 +15,7 @@ fn put_back(session: &mut Session, timeline: &mut Timeline, steps: u64) {
         Ok(true) => session.show_next(timeline),
         Ok(false) => {
             let made = timeline.steps();
-            refuse(&mut session.answer, Refusal::FewSteps(made));
+            refuse(&mut session.answer, CommandError::FewSteps(made));
         }
         Err(_) => session.answer.fail(),
     }
@@ -25,7 +25,7 @@ fn put_back(session: &mut Session, timeline: &mut Timeline, steps: u64) {
 pub fn back(session: &mut Session, timeline: &mut Timeline, steps: u64) {
     let made = timeline.steps();
     if steps > made {
-        return refuse(&mut session.answer, Refusal::FewSteps(made));
+        return refuse(&mut session.answer, CommandError::FewSteps(made));
     }
     put_back(session, timeline, made - steps);
 }
@@ -33,11 +33,11 @@ pub fn back(session: &mut Session, timeline: &mut Timeline, steps: u64) {
 /// `.BACK TO a`: goes back to where the open job last stood at an address.
 pub fn back_to(session: &mut Session, timeline: &mut Timeline, address: u32) {
     let Some(address) = Address::try_new(address) else {
-        return refuse(&mut session.answer, Refusal::NeverThere);
+        return refuse(&mut session.answer, CommandError::NeverThere);
     };
     match last_at(timeline, session.open, address) {
         Ok(Some(steps)) => put_back(session, timeline, steps),
-        Ok(None) => refuse(&mut session.answer, Refusal::NeverThere),
+        Ok(None) => refuse(&mut session.answer, CommandError::NeverThere),
         Err(_) => session.answer.fail(),
     }
 }
@@ -47,7 +47,7 @@ pub fn back_to(session: &mut Session, timeline: &mut Timeline, address: u32) {
 pub fn back_to_write(session: &mut Session, timeline: &mut Timeline, address: u32) {
     let steps = match last_write(timeline, session.open, address) {
         Ok(Some(steps)) => steps,
-        Ok(None) => return refuse(&mut session.answer, Refusal::NeverWritten),
+        Ok(None) => return refuse(&mut session.answer, CommandError::NeverWritten),
         Err(_) => return session.answer.fail(),
     };
     match turn_at(timeline, steps) {

@@ -1,7 +1,7 @@
 //! The last turns of a job.
 
 use crate::session::Session;
-use ddt_commands::{OutputMode, Refusal};
+use ddt_commands::{CommandError, OutputMode};
 use ddt_moves::{Replay, last_turns, next_instruction};
 use ddt_show::{ShownJob, address_line, refuse};
 use ddt_timeline::Timeline;
@@ -46,7 +46,7 @@ pub fn show_history(session: &mut Session, timeline: &Timeline, most: u32) {
     match last_turns(timeline, session.open, most as usize) {
         Ok(turns) => match turns.first() {
             Some(first) => say_turns_from(session, timeline, first),
-            None => refuse(&mut session.answer, Refusal::NoTurns),
+            None => refuse(&mut session.answer, CommandError::NoTurns),
         },
         Err(_) => session.answer.fail(),
     }

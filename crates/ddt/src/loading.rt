@@ -7,6 +7,7 @@ use image_files::Packing;
 use monitor::{Answer, RefusedEvent};
 use program_files::{ProgramFile, read_programs};
 use program_shell::PendingText;
+use run_notes::login_refusal_text;
 use shown_bytes::push_shown;
 use source_labels::{MOST_REPORTED, Program};
 
@@ -25,14 +26,12 @@ fn add_job(session: &mut Session, file: &str, shown: ShownJob, written: Option<V
     }
 }
 
-/// Reports why a program is not logged in, by the answer of the machine.
-fn report_refusal(report: &mut PendingText, file: &str, answer: &Answer) {
+/// Reports why a program is not logged in.
+fn report_refusal(report: &mut PendingText, file: &str, refusal: RefusedEvent) {
     report.say(file);
-    report.say(match answer {
-        Answer::Refused(RefusedEvent::NoCore) => ": it takes more blocks of core than are free\n",
-        Answer::Refused(RefusedEvent::BadImage) => ": it has no words\n",
-        _ => ": it cannot be logged in\n",
-    });
+    report.say(": ");
+    report.say(login_refusal_text(refusal));
+    report.end_line();
 }
 
 /// Logs a program in at the next line, and adds its job; false where it is refused, which is reported.
@@ -50,8 +49,12 @@ fn log_in(session: &mut Session, timeline: &mut Timeline, program: Program<'_>) 
             add_job(session, file, ShownJob { number, places }, written);
             true
         }
-        Ok(answer) => {
-            report_refusal(&mut session.answer, file, &answer);
+        Ok(Answer::Refused(refusal)) => {
+            report_refusal(&mut session.answer, file, refusal);
+            false
+        }
+        Ok(_) => {
+            report_refusal(&mut session.answer, file, RefusedEvent::NoJobNumber);
             false
         }
         Err(_) => {

@@ -1,7 +1,7 @@
 //! What has happened in a session as a script of `lockmon run`.
 
 use crate::session::{Session, SessionJob};
-use ddt_commands::Refusal;
+use ddt_commands::CommandError;
 use ddt_moves::{is_edited, is_executed};
 use ddt_show::refuse;
 use ddt_timeline::{Timeline, push_past};
@@ -80,9 +80,9 @@ pub fn record(session: &mut Session, timeline: &Timeline) {
     }
     match make_script(&mut session.script, head.text.as_slice(), timeline) {
         Ok(true) => return,
-        Ok(false) if is_edited(timeline) => refuse(&mut session.answer, Refusal::Deposited),
-        Ok(false) if is_executed(timeline) => refuse(&mut session.answer, Refusal::Executed),
-        Ok(false) => refuse(&mut session.answer, Refusal::StartedAt),
+        Ok(false) if is_edited(timeline) => refuse(&mut session.answer, CommandError::Deposited),
+        Ok(false) if is_executed(timeline) => refuse(&mut session.answer, CommandError::Executed),
+        Ok(false) => refuse(&mut session.answer, CommandError::StartedAt),
         Err(_) => session.answer.fail(),
     }
     session.script.clear();

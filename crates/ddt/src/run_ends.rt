@@ -2,7 +2,7 @@
 
 use crate::session::Session;
 use crate::tables::{say_edits, show_waits};
-use ddt_moves::{Cause, RunEnd, turn_at};
+use ddt_moves::{RunEnd, StopCause, turn_at};
 use ddt_show::change_text;
 use ddt_timeline::Timeline;
 use word36::Word;
@@ -73,27 +73,27 @@ fn report_cause(session: &mut Session, timeline: &Timeline, end: RunEnd, most: u
     let _word: Option<Word> = None;
     let cause = end.cause;
     match cause {
-        Some(Cause::Breakpoint(number, job, address)) => {
+        Some(StopCause::Breakpoint(number, job, address)) => {
             report_breakpoint(session, timeline, number, job, address)
         }
-        Some(Cause::Word(job, address, was)) => {
+        Some(StopCause::Word(job, address, was)) => {
             report_change(session, timeline, job, address, was)
         }
-        Some(Cause::Circle) => {
+        Some(StopCause::Circle) => {
             session.answer.say("jobs wait in a circle\n");
             show_waits(&mut session.answer, timeline);
         }
-        Some(Cause::Call(job)) => {
+        Some(StopCause::Call(job)) => {
             session.open = job;
             let behind = " is before a call on the lock\n";
             session.answer.say_number("job ", u64::from(job), behind);
             session.show_next(timeline);
         }
-        Some(Cause::Grant) => {
+        Some(StopCause::Grant) => {
             session.answer.say(session.grants.as_str());
             session.show_next(timeline);
         }
-        Some(Cause::Own | Cause::Input) => session.show_next(timeline),
+        Some(StopCause::Own | StopCause::Input) => session.show_next(timeline),
         None => report_no_stop(session, timeline, end, most),
     }
 }

@@ -2,12 +2,13 @@
 
 use crate::run_ends::report_end;
 use crate::session::Session;
-use ddt_commands::{MOST_TIMES, RUN_STEPS, Refusal};
+use ddt_commands::{CommandError, MOST_TIMES, RUN_STEPS};
 use ddt_moves::{
-    Cause, RunEnd, RunStops, begin, cause_at_start, go_on, is_stopped, run_to, start_jobs, stops_of,
+    RunEnd, RunStops, StopCause, begin, cause_at_start, go_on, is_stopped, run_to, start_jobs,
+    stops_of,
 };
 use ddt_show::refuse;
-use ddt_timeline::{Stop, Timeline, some_go_on};
+use ddt_timeline::{StopCondition, Timeline, some_go_on};
 use job_sched::Wait;
 use ka_state::{Outcome, StopReason};
 use run_notes::stop_text;
@@ -22,19 +23,19 @@ const MOST_STEPS: u32 = RUN_STEPS as u32;
 fn try_run(
     session: &mut Session,
     timeline: &mut Timeline,
-    own: &[Stop],
+    own: &[StopCondition],
     most: u32,
 ) -> Result<RunEnd, AllocError> {
     let machine = timeline.machine();
     let mut stops = stops_of(session.alloc, machine, own, &session.list)?;
     if session.input.is_left(timeline.happened()) {
-        stops.add(Stop::Input, 0)?;
+        stops.add(StopCondition::Input, 0)?;
     }
     run_with_input(session, timeline, &mut stops, most)
 }
 
 /// Makes steps as `try_run` does. Where there is too little memory, the run ends, and the answer fails.
-fn run(session: &mut Session, timeline: &mut Timeline, own: &[Stop], most: u32) -> RunEnd {
+fn run(session: &mut Session, timeline: &mut Timeline, own: &[StopCondition], most: u32) -> RunEnd {
     match try_run(session, timeline, own, most) {
         Ok(end) => end,
         Err(_) => {
@@ -75,7 +76,7 @@ fn goes_on(
     timeline: &mut Timeline,
     end: RunEnd,
 ) -> Result<bool, AllocError> {
-    if end.is_cut || !matches!(end.cause, None | Some(Cause::Input)) {
+    if end.is_cut || !matches!(end.cause, None | Some(StopCause::Input)) {
         return Ok(false);
     }
     let lines = session.lines();
@@ -94,7 +95,7 @@ pub fn go(session: &mut Session, timeline: &mut Timeline) {
             session.input.forget(happened);
             run_from_start(session, timeline);
         }
-        Ok(false) => refuse(&mut session.answer, Refusal::Gone),
+        Ok(false) => refuse(&mut session.answer, CommandError::Gone),
         Err(_) => session.answer.fail(),
     }
 }
@@ -127,7 +128,10 @@ pub fn proceed_on(session: &mut Session, timeline: &mut Timeline) {
 }
 
 /// Continues the open job where CTRL-C or EXIT 1 stopped it, and gives why a run makes no step then.
-fn continue_open(session: &Session, timeline: &mut Timeline) -> Result<Option<Cause>, AllocError> {
+fn continue_open(
+    session: &Session,
+    timeline: &mut Timeline,
+) -> Result<Option<StopCause>, AllocError> {
     let open = session.open;
     match go_on(timeline, open) {
         Ok(true) => cause_at_start(timeline, open, open, &session.list),
@@ -141,7 +145,7 @@ fn continue_open(session: &Session, timeline: &mut Timeline) -> Result<Option<Ca
 fn proceed_from(
     session: &mut Session,
     timeline: &mut Timeline,
-    begun: Result<Option<Cause>, AllocError>,
+    begun: Result<Option<StopCause>, AllocError>,
     times: u32,
     most: u32,
     shows_all: bool,
@@ -154,7 +158,7 @@ fn proceed_from(
         Err(_) => return session.answer.fail(),
     };
     for _ in 1..times {
-        if !matches!(end.cause, Some(Cause::Breakpoint(_, _, _))) {
+        if !matches!(end.cause, Some(StopCause::Breakpoint(_, _, _))) {
             break;
         }
         if shows_all {
@@ -173,10 +177,15 @@ pub fn execute(session: &mut Session, timeline: &mut Timeline, count: u32) {
         return session.answer.fail();
     }
     for _ in 0..count {
-        let end = run(session, timeline, &[Stop::Turn(number)], MOST_STEPS);
+        let end = run(
+            session,
+            timeline,
+            &[StopCondition::Turn(number)],
+            MOST_STEPS,
+        );
         let cause = end.cause;
         report_end(session, timeline, end, MOST_STEPS);
-        let is_own = matches!(cause, Some(Cause::Own));
+        let is_own = matches!(cause, Some(StopCause::Own));
         if !is_own || is_stopped(timeline.machine(), number) {
             break;
         }
@@ -203,21 +212,21 @@ fn run_to_return(session: &mut Session, timeline: &mut Timeline, address: Addres
     let _word: Option<Word> = None;
     let number = session.open;
     let own = [
-        Stop::At(number, address, None),
-        Stop::At(number, address.plus(1), None),
-        Stop::End(number),
+        StopCondition::At(number, address, None),
+        StopCondition::At(number, address.plus(1), None),
+        StopCondition::End(number),
     ];
     let end = run(session, timeline, &own, MOST_STEPS);
     report_end(session, timeline, end, MOST_STEPS);
 }
 
 /// Why an instruction that is typed is not executed, by how the processor ends it; `None` where it is complete.
-fn refusal_of(end: &Option<Outcome>) -> Option<Refusal> {
+fn refusal_of(end: &Option<Outcome>) -> Option<CommandError> {
     match end {
-        None => Some(Refusal::Gone),
+        None => Some(CommandError::Gone),
         Some(Outcome::Done | Outcome::Stop(StopReason::Pushdown)) => None,
-        Some(Outcome::Call(_, _, _)) => Some(Refusal::CallsMonitor),
-        Some(Outcome::Stop(reason)) => Some(Refusal::Stops(stop_text(job_sched::Stop::Fault(
+        Some(Outcome::Call(_, _, _)) => Some(CommandError::CallsMonitor),
+        Some(Outcome::Stop(reason)) => Some(CommandError::Stops(stop_text(job_sched::Stop::Fault(
             *reason,
         )))),
     }
@@ -232,10 +241,10 @@ pub fn execute_word(session: &mut Session, timeline: &mut Timeline, word: Word) 
         return session.answer.fail();
     }
     let Some(view) = timeline.machine().job(number) else {
-        return refuse(&mut session.answer, Refusal::Gone);
+        return refuse(&mut session.answer, CommandError::Gone);
     };
     if view.wait != Wait::None {
-        return refuse(&mut session.answer, Refusal::Waits);
+        return refuse(&mut session.answer, CommandError::Waits);
     }
     let Ok(end) = timeline.execute(number, word) else {
         return session.answer.fail();

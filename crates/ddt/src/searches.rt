@@ -2,7 +2,7 @@
 
 use crate::session::Session;
 use concrete_machine::Machine;
-use ddt_commands::{Refusal, Search, SearchKind};
+use ddt_commands::{CommandError, Search, SearchKind};
 use ddt_show::refuse;
 use ddt_timeline::Timeline;
 use word36::{BLOCK_WORDS, Word};
@@ -49,6 +49,6 @@ pub fn search(session: &mut Session, timeline: &Timeline, search: &Search) {
         }
     }
     if !is_any {
-        refuse(&mut session.answer, Refusal::NotFound);
+        refuse(&mut session.answer, CommandError::NotFound);
     }
 }

@@ -2,7 +2,7 @@
 
 use crate::session::Session;
 use ddt_breakpoints::{BREAKPOINTS, Condition};
-use ddt_commands::{NewBreakpoint, Refusal};
+use ddt_commands::{CommandError, NewBreakpoint};
 use ddt_moves::{Breakpoint, WatchedWord};
 use ddt_show::refuse;
 use ddt_timeline::Timeline;
@@ -25,10 +25,10 @@ fn has_word(session: &Session, timeline: &Timeline, condition: Option<Condition>
 /// `a$B` and `a$nB`: sets a breakpoint of the open job.
 pub fn set(session: &mut Session, timeline: &Timeline, wanted: &NewBreakpoint) {
     let Some(address) = Address::try_new(wanted.address) else {
-        return refuse(&mut session.answer, Refusal::NoWord);
+        return refuse(&mut session.answer, CommandError::NoWord);
     };
     if !has_word(session, timeline, wanted.condition) {
-        return refuse(&mut session.answer, Refusal::NoWord);
+        return refuse(&mut session.answer, CommandError::NoWord);
     }
     let breakpoint = Breakpoint {
         job: session.open,
@@ -38,14 +38,14 @@ pub fn set(session: &mut Session, timeline: &Timeline, wanted: &NewBreakpoint) {
     };
     match session.list.set(&breakpoint, wanted.number) {
         Some(number) => show_breakpoint(session, number, &breakpoint),
-        None => refuse(&mut session.answer, Refusal::NoBreakpointFree),
+        None => refuse(&mut session.answer, CommandError::NoBreakpointFree),
     }
 }
 
 /// `0$nB`: clears a breakpoint.
 pub fn unset(session: &mut Session, number: u8) {
     if !session.list.unset(number) {
-        refuse(&mut session.answer, Refusal::NotSet);
+        refuse(&mut session.answer, CommandError::NotSet);
     }
 }
 
@@ -90,7 +90,7 @@ pub fn show_one(session: &mut Session, number: u8) {
     let slot = usize::from(number).saturating_sub(1);
     match session.list.breakpoints.get(slot).copied().flatten() {
         Some(breakpoint) => show_breakpoint(session, usize::from(number), &breakpoint),
-        None => refuse(&mut session.answer, Refusal::NotSet),
+        None => refuse(&mut session.answer, CommandError::NotSet),
     }
 }
 
@@ -132,12 +132,12 @@ pub fn show_stops(session: &mut Session) {
 pub fn watch(session: &mut Session, timeline: &Timeline, address: u32) {
     let job = session.open;
     if timeline.machine().peek(job, address).is_none() {
-        return refuse(&mut session.answer, Refusal::NoWord);
+        return refuse(&mut session.answer, CommandError::NoWord);
     }
     let word = WatchedWord { job, address };
     match session.list.watch(word) {
         Some(is_watched) => show_watched(session, word, is_watched),
-        None => refuse(&mut session.answer, Refusal::NoWatchFree),
+        None => refuse(&mut session.answer, CommandError::NoWatchFree),
     }
 }
 
@@ -176,7 +176,7 @@ fn lock_name(job: u8, text: &[u8]) -> Option<Name> {
 /// `.BREAK LOCK name`: stops runs before calls on a lock, or no longer where they do.
 pub fn stop_at_lock(session: &mut Session, text: &[u8]) {
     let Some(name) = lock_name(session.open, text) else {
-        return refuse(&mut session.answer, Refusal::NoLock);
+        return refuse(&mut session.answer, CommandError::NoLock);
     };
     match &session.list.lock {
         Some(lock) if lock.is_same(&name) => {

@@ -1,7 +1,7 @@
 //! Commands that show jobs, locks and registers.
 
 use crate::session::Session;
-use ddt_commands::Refusal;
+use ddt_commands::CommandError;
 use ddt_moves::{is_edited, is_executed};
 use ddt_show::{lock_lines, refuse, register_lines, wait_lines};
 use ddt_timeline::Timeline;
@@ -11,7 +11,7 @@ use std::alloc::AllocError;
 /// `.JOB n`: opens a job, and shows how it stands.
 pub fn open_job(session: &mut Session, timeline: &Timeline, number: u8) {
     if usize::from(number) > session.jobs.len() || number == 0 {
-        return refuse(&mut session.answer, Refusal::NoJob);
+        return refuse(&mut session.answer, CommandError::NoJob);
     }
     session.open = number;
     session.is_open = false;

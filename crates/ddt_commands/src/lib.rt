@@ -22,6 +22,6 @@ pub use dot_commands::RUN_STEPS;
 pub use line_errors::LineError;
 pub use lines::read_line;
 pub use numbers::MOST_TIMES;
-pub use refusals::Refusal;
+pub use refusals::CommandError;
 pub use spelled::first_character;
 pub use values::{Scope, Symbol};

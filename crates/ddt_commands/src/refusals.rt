@@ -5,7 +5,7 @@ use std::fmt;
 
 /// Why the debugger does not obey a command that is well-formed. It is written as `?` and the reason, without a line end.
 #[derive(Clone, Copy)]
-pub enum Refusal {
+pub enum CommandError {
     /// No address is open.
     NotOpen,
     /// There is no such lock.
@@ -54,42 +54,42 @@ pub enum Refusal {
     Stops(&'static str),
 }
 
-impl fmt::Display for Refusal {
+impl fmt::Display for CommandError {
     fn fmt<W: fmt::Write>(&self, f: &mut fmt::Formatter<W>) -> fmt::Result {
         let text = match *self {
-            Refusal::Stops(reason) => return write!(f, "? not executed: {reason}"),
-            Refusal::FewSteps(steps) => return write!(f, "? only {steps} steps were made"),
-            Refusal::NoBreakpointFree => {
+            CommandError::Stops(reason) => return write!(f, "? not executed: {reason}"),
+            CommandError::FewSteps(steps) => return write!(f, "? only {steps} steps were made"),
+            CommandError::NoBreakpointFree => {
                 return write!(f, "? all {BREAKPOINTS} breakpoints are set");
             }
-            Refusal::NoWatchFree => {
+            CommandError::NoWatchFree => {
                 return write!(f, "? {BREAKPOINTS} words are watched already");
             }
-            Refusal::NotOpen => "? no place is open: LOOP/ opens the place LOOP",
-            Refusal::NoLock => "? a lock is named as in .BREAK LOCK A, or by its code as #17",
-            Refusal::NoWord => "? the job has no word there",
-            Refusal::NoJob => "? there is no such job: .JOBS lists them",
-            Refusal::NotSet => "? that breakpoint is not set",
-            Refusal::Gone => "? no job can be started: the open one is gone",
-            Refusal::NeverWritten => "? no step has changed that word",
-            Refusal::NeverThere => "? the job did not stand there before any step",
-            Refusal::LineFull => "? the terminal line has no room for more",
-            Refusal::NoJobAtLine => "? no job is at that terminal line: job 1 is at line 0",
-            Refusal::NoCharacter => {
+            CommandError::NotOpen => "? no place is open: LOOP/ opens the place LOOP",
+            CommandError::NoLock => "? a lock is named as in .BREAK LOCK A, or by its code as #17",
+            CommandError::NoWord => "? the job has no word there",
+            CommandError::NoJob => "? there is no such job: .JOBS lists them",
+            CommandError::NotSet => "? that breakpoint is not set",
+            CommandError::Gone => "? no job can be started: the open one is gone",
+            CommandError::NeverWritten => "? no step has changed that word",
+            CommandError::NeverThere => "? the job did not stand there before any step",
+            CommandError::LineFull => "? the terminal line has no room for more",
+            CommandError::NoJobAtLine => "? no job is at that terminal line: job 1 is at line 0",
+            CommandError::NoCharacter => {
                 "? a backslash stands before n, r, e, a backslash, or three octal digits up to 177"
             }
-            Refusal::WrongOrder => "? the first place is behind the last",
-            Refusal::NoTurns => "? the job has had no turn",
-            Refusal::NotFound => "? no word was found",
-            Refusal::Deposited => "? not recorded: words were deposited, which no script does",
-            Refusal::StartedAt => {
+            CommandError::WrongOrder => "? the first place is behind the last",
+            CommandError::NoTurns => "? the job has had no turn",
+            CommandError::NotFound => "? no word was found",
+            CommandError::Deposited => "? not recorded: words were deposited, which no script does",
+            CommandError::StartedAt => {
                 "? not recorded: a job was started at a place, which no script does"
             }
-            Refusal::Executed => {
+            CommandError::Executed => {
                 "? not recorded: an instruction was executed by hand, which no script does"
             }
-            Refusal::Waits => "? not executed: the job waits",
-            Refusal::CallsMonitor => {
+            CommandError::Waits => "? not executed: the job waits",
+            CommandError::CallsMonitor => {
                 "? not executed: the monitor is called by the program's own instructions alone"
             }
         };

@@ -11,7 +11,7 @@ use Rattle.ddt_moves.specs.OtherEnds.{HasLooked, counted_in, counters_of, due_ca
 use Rattle.ddt_moves.specs.RunEnds.{cause_at_slot}
 use Rattle.ddt_moves.specs.Visits.{counters_after, due_behind, first_due, stepped}
 use Rattle.ddt_moves.specs.declared.lock_watch.LockWatch.{LockWatch}
-use Rattle.ddt_moves.specs.declared.run_stops.Cause.{Cause}
+use Rattle.ddt_moves.specs.declared.run_stops.StopCause.{StopCause}
 use Rattle.ddt_moves.specs.declared.stop_lists.StopList.{StopList}
 use Rattle.ddt_moves.specs.declared.visits.Counter.{Counter}
 use Rattle.ddt_moves.proofs.VisitLemmas.{AreCountersOf, are-after, cause_is, none_behind, none_due}
@@ -73,7 +73,7 @@ last_none s list cs v u n all before looked =
     let parts = goes_on_parts u.has_failed u.cause looked.ended in
     none_due list (after (rounds (suc n) true) s) (next_in (after (rounds n true) s)) (counters_after s cs n)
     (are-after list.breakpoints s cs n all)
-    (sym (due_same s list cs v n before) ∙ sym (looked.due parts.0) ∙ ap (λ (o : Option Cause). if_breakpoint o) parts.1)
+    (sym (due_same s list cs v n before) ∙ sym (looked.due parts.0) ∙ ap (λ (o : Option StopCause). if_breakpoint o) parts.1)
 
 has_counted : (s : S) (list : StopList) (cs : List Counter) (w v : LockWatch) (n : ℕ) → AreCountersOf list.breakpoints cs
     → list_of w ≡ list

@@ -18,7 +18,7 @@ use Rattle.ddt_moves.specs.RunEnds.{IsCountedEnd, IsEnd, IsWatchEnd, cause_at_sl
 use Rattle.ddt_moves.specs.RunStops.{cause_at}
 use Rattle.ddt_moves.specs.Visits.{due_behind}
 use Rattle.ddt_moves.specs.declared.lock_watch.LockWatch.{LockWatch}
-use Rattle.ddt_moves.specs.declared.run_stops.Cause.{Cause}
+use Rattle.ddt_moves.specs.declared.run_stops.StopCause.{StopCause}
 use Rattle.ddt_moves.specs.declared.run_stops.RunStops.{RunStops}
 use Rattle.ddt_moves.specs.declared.runs.RunEnd.{RunEnd}
 use Rattle.ddt_moves.specs.declared.stop_lists.StopList.{StopList}
@@ -40,7 +40,7 @@ none_before : (s : S) (stops : List WatchedStop) (most : ℕ) (ran : Run) → Is
 none_before s stops most ran run zero less = refl
 none_before s stops most ran run (suc n) less = run.none_over n (omega (arith, less))
 
-first_is_cause : (causes : List Cause) (stop : Option ℕ) (cause : Option Cause) → cause ≡ cause_at causes stop
+first_is_cause : (causes : List StopCause) (stop : Option ℕ) (cause : Option StopCause) → cause ≡ cause_at causes stop
     → IfSome stop (λ i. cause ≡ slice_get causes i)
 first_is_cause causes (Some i) cause same = same
 first_is_cause causes None cause same = tt
@@ -51,12 +51,12 @@ if_none None P none = tt
 
 -- ---- cuts
 
-cut_parts : (causes : List Cause) (stop : Option ℕ) (watched : Bool) (cause : Option Cause) → watched ≡ false → cause ≡ cause_at causes stop
+cut_parts : (causes : List StopCause) (stop : Option ℕ) (watched : Bool) (cause : Option StopCause) → watched ≡ false → cause ≡ cause_at causes stop
     → (is_none stop && not watched) ≡ (is_none stop && is_none cause)
 cut_parts causes (Some i) watched cause quiet same = refl
-cut_parts causes None watched cause quiet same = ap (λ (b : Bool). not b) quiet ∙ sym (ap (λ (o : Option Cause). is_none o) same)
+cut_parts causes None watched cause quiet same = ap (λ (b : Bool). not b) quiet ∙ sym (ap (λ (o : Option StopCause). is_none o) same)
 
-not_cut : (b : Bool) (cause : Option Cause) (d : Bool) → is_some cause ≡ true → false ≡ ((b && is_none cause) && d)
+not_cut : (b : Bool) (cause : Option StopCause) (d : Bool) → is_some cause ≡ true → false ≡ ((b && is_none cause) && d)
 not_cut false cause d some = refl
 not_cut true (Some cause) d some = refl
 not_cut true None d some = absurd (false≢true some)
@@ -85,8 +85,8 @@ end_by_stop s stops list most ran end run watched quiet made cause cut =
           (cause ∙ ap (λ (o : Option ℕ). cause_at stops.causes.items o) stop);
       besides =
           λ none.
-          ap (λ (o : Option Cause). ends_for list (after (rounds end.made true) s) (facts_behind s end.made) o) (at_none none)
-          ∙ ap (λ (o : Option Cause). is_none o)
+          ap (λ (o : Option StopCause). ends_for list (after (rounds end.made true) s) (facts_behind s end.made) o) (at_none none)
+          ∙ ap (λ (o : Option StopCause). is_none o)
           (ap (λ (n : ℕ). told_cause list (facts_behind s n)) made ∙ watched.quiet (stop ∙ none) quiet);
       cut =
           cut
@@ -109,7 +109,7 @@ end_by_watch s stops list most ran w end run watched by_watch ended =
     let stop : ran.stop ≡ stop_behind stops.stops.items s end.made = stop_is s stops.stops.items most ran run end.made ended.made in
     let none : stop_behind stops.stops.items s end.made ≡ None = sym stop ∙ run.quiet by_watch in
     let some : is_some end.cause ≡ true =
-    ap (λ (o : Option Cause). is_some o) ended.cause ∙ watched.some by_watch ended.worked ended.some in
+    ap (λ (o : Option StopCause). is_some o) ended.cause ∙ watched.some by_watch ended.worked ended.some in
     record {
       few = omega (arith, ended.made, run.most);
       none_over = λ n less. none_before s stops.stops.items most ran run n (omega (arith, less, ended.made));
@@ -117,12 +117,12 @@ end_by_watch s stops list most ran w end run watched by_watch ended =
       cause = if_none (stop_behind stops.stops.items s end.made) _ none;
       besides =
           λ _.
-          ap (λ (o : Option Cause). ends_for list (after (rounds end.made true) s) (facts_behind s end.made) o) ended.cause
+          ap (λ (o : Option StopCause). ends_for list (after (rounds end.made true) s) (facts_behind s end.made) o) ended.cause
           ∙ ap (λ (n : ℕ). ends_for list (after (rounds n true) s) (facts_behind s n) w.cause) ended.made
           ∙ watched.cause by_watch ended.worked ended.some;
       cut =
           ended.cut ∙ not_cut (is_none (stop_behind stops.stops.items s end.made)) end.cause (nat_le most end.made) some;
-      ends = λ less _ no_cause. absurd (false≢true (sym (ap (λ (o : Option Cause). is_some o) no_cause) ∙ some));
+      ends = λ less _ no_cause. absurd (false≢true (sym (ap (λ (o : Option StopCause). is_some o) no_cause) ∙ some));
     }
 
 -- ---- breakpoints that count
@@ -141,7 +141,7 @@ counted_by_stop s cs stops list most ran end run counted quiet made cause =
       none_over = λ n less. counted.none n (omega (arith, less, made));
       cause =
           λ none.
-          ap (λ (o : Option Cause). if_breakpoint o)
+          ap (λ (o : Option StopCause). if_breakpoint o)
           (cause ∙ ap (λ (o : Option ℕ). cause_at stops.causes.items o) (stop ∙ none))
           ∙ sym (ap (λ (n : ℕ). cause_at_slot list (due_behind s cs n)) made
           ∙ ap (λ (o : Option ℕ). cause_at_slot list o) (counted.quiet (stop ∙ none) quiet));
@@ -157,7 +157,7 @@ counted_by_watch s cs stops list ran w end counted by_watch ended = record {
   none_over = λ n less. counted.run.none n (omega (arith, less, ended.made));
   cause =
       λ _.
-      ap (λ (o : Option Cause). if_breakpoint o) ended.cause
+      ap (λ (o : Option StopCause). if_breakpoint o) ended.cause
       ∙ counted.cause by_watch ended.worked ended.some
       ∙ ap (λ (n : ℕ). cause_at_slot list (due_behind s cs n)) (sym ended.made);
 }
@@ -174,7 +174,7 @@ pub not_at_grant : (s : S) (stops : RunStops) (most : ℕ) (ran : Run) (end : Ru
 not_at_grant s stops most ran end P run made cause is none =
     let stop : ran.stop ≡ stop_behind stops.stops.items s end.made = stop_is s stops.stops.items most ran run end.made made in
     let no_cause : end.cause ≡ None = cause ∙ ap (λ (o : Option ℕ). cause_at stops.causes.items o) (stop ∙ none) in
-    absurd (false≢true (sym (ap (λ (o : Option Cause). is_grant o) no_cause) ∙ is))
+    absurd (false≢true (sym (ap (λ (o : Option StopCause). is_grant o) no_cause) ∙ is))
 
 -- the lines on what was granted behind a run that its watch ended
 pub lines_of : (s : S) (list : StopList) (ran : Run) (w : LockWatch) (end : RunEnd) (ticks : ℕ) → IsWatchedBy s list w ran → ran.by_watch ≡ true

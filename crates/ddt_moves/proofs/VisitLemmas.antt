@@ -13,15 +13,15 @@ use Rattle.ddt_timeline.specs.Histories.{History, one_step}
 use Rattle.ddt_timeline.specs.Stops.{fits, is_job, is_met, is_met_at, round, stands_at}
 use Rattle.ddt_timeline.specs.Timelines.{made, steps_of}
 use Rattle.ddt_timeline.specs.declared.entries.Entry.{Entry}
-use Rattle.ddt_timeline.specs.declared.stops.Stop.{Stop}
-use Rattle.ddt_timeline.specs.declared.stops.Stop.TheVariants.{At}
+use Rattle.ddt_timeline.specs.declared.stops.StopCondition.{StopCondition}
+use Rattle.ddt_timeline.specs.declared.stops.StopCondition.TheVariants.{At}
 use Rattle.ddt_moves.specs.OtherEnds.{cause_of_breakpoint, counted_at, counted_in, stands}
 use Rattle.ddt_moves.specs.Replays.{before_step, from_step}
 use Rattle.ddt_moves.specs.RunEnds.{cause_at_slot}
 use Rattle.ddt_moves.specs.StopLists.{counts, or_slot}
 use Rattle.ddt_moves.specs.Visits.{behind, behind_all, behind_one, comes_due, counter_at, counter_if, counters, counters_after}
 use Rattle.ddt_moves.specs.Visits.{counters_from, due_behind, first_due, is_due, seen_before, slot_if, stepped}
-use Rattle.ddt_moves.specs.declared.run_stops.Cause.TheVariants as cause
+use Rattle.ddt_moves.specs.declared.run_stops.StopCause.TheVariants as cause
 use Rattle.ddt_moves.specs.declared.stop_lists.Breakpoint.{Breakpoint}
 use Rattle.ddt_moves.specs.declared.stop_lists.StopList.{StopList}
 use Rattle.ddt_moves.specs.declared.visits.Counter.{Counter}
@@ -210,7 +210,7 @@ due_at slots s ran c of due = record {
       both (nat_lt 1 of.breakpoint.times) (stands s of.breakpoint) of.does_count
       (stands_there (stands_at (job_view s.world of.breakpoint.job) of.breakpoint.address) (is_job ran of.breakpoint.job || not c.stop.stood)
       (fits s of.breakpoint.job of.breakpoint.condition)
-      (sym (ap (λ (x : Stop). is_met c.stop.stood s ran x) of.stop)
+      (sym (ap (λ (x : StopCondition). is_met c.stop.stood s ran x) of.stop)
       ∙ (and_parts (is_met_at s ran c.stop) (is_due (stepped s ran c)) due).0));
 }
 

@@ -16,8 +16,8 @@ use Rattle.ddt_timeline.proofs.AskingLemmas.{both-none}
 use Rattle.ddt_timeline.proofs.RunLemmas.{rounds-one_more}
 use Rattle.ddt_moves.specs.OtherEnds.{HasLooked, ends_for, facts_behind, facts_of, if_breakpoint, is_closed, is_granted, list_of, told_cause}
 use Rattle.ddt_moves.specs.declared.lock_watch.LockWatch.{LockWatch}
-use Rattle.ddt_moves.specs.declared.run_stops.Cause.{Cause}
-use Rattle.ddt_moves.specs.declared.run_stops.Cause.TheVariants as cause
+use Rattle.ddt_moves.specs.declared.run_stops.StopCause.{StopCause}
+use Rattle.ddt_moves.specs.declared.run_stops.StopCause.TheVariants as cause
 use Rattle.ddt_moves.specs.declared.stop_lists.StopList.{StopList}
 
 abbrev pub asks : LockWatch → LockWatch → S → Bool → Type 0
@@ -52,29 +52,29 @@ told-none list facts circles grants =
 
 by-told : (list : StopList) (s : S) (facts : List Fact) (circle grant : Bool)
     → circle ≡ (list_any is_closed facts && list.circles) → grant ≡ (list_any is_granted facts && list.grants)
-    → (o : Option Cause) → o ≡ cond circle (Some cause.Circle) (cond grant (Some cause.Grant) None) → is_some o ≡ true
+    → (o : Option StopCause) → o ≡ cond circle (Some cause.Circle) (cond grant (Some cause.Grant) None) → is_some o ≡ true
     → (ends_for list s facts o ≡ true) × (if_breakpoint o ≡ None)
 by-told list s facts true grant circles grants o is some = (
-  ap (λ (x : Option Cause). ends_for list s facts x) is ∙ sym circles,
-  ap (λ (x : Option Cause). if_breakpoint x) is,
+  ap (λ (x : Option StopCause). ends_for list s facts x) is ∙ sym circles,
+  ap (λ (x : Option StopCause). if_breakpoint x) is,
 )
 by-told list s facts false true circles grants o is some = (
-  ap (λ (x : Option Cause). ends_for list s facts x) is ∙ sym grants,
-  ap (λ (x : Option Cause). if_breakpoint x) is,
+  ap (λ (x : Option StopCause). ends_for list s facts x) is ∙ sym grants,
+  ap (λ (x : Option StopCause). if_breakpoint x) is,
 )
-by-told list s facts false false circles grants o is some = absurd (false≢true (sym (ap (λ (x : Option Cause). is_some x) is) ∙ some))
+by-told list s facts false false circles grants o is some = absurd (false≢true (sym (ap (λ (x : Option StopCause). is_some x) is) ∙ some))
 
 -- where they are a cause, that may end a run, and is no breakpoint
-pub told_ends : (list : StopList) (s : S) (facts : List Fact) (o : Option Cause) → o ≡ told_cause list facts → is_some o ≡ true
+pub told_ends : (list : StopList) (s : S) (facts : List Fact) (o : Option StopCause) → o ≡ told_cause list facts → is_some o ≡ true
     → (ends_for list s facts o ≡ true) × (if_breakpoint o ≡ None)
 told_ends list s facts o is some =
     by-told list s facts (list_any is_closed facts && list.circles) (list_any is_granted facts && list.grants) refl refl o is some
 
 -- where they are none, what is a cause by all facts may end a run, or none
-pub other_ends : (list : StopList) (s : S) (facts : List Fact) (o : Option Cause) → told_cause list facts ≡ None
+pub other_ends : (list : StopList) (s : S) (facts : List Fact) (o : Option StopCause) → told_cause list facts ≡ None
     → IfSome o (λ x. (all : List Fact) → ends_for list s all (Some x) ≡ true)
     → ends_for list s facts o ≡ true
-other_ends list s facts None none by = ap (λ (x : Option Cause). is_none x) none
+other_ends list s facts None none by = ap (λ (x : Option StopCause). is_none x) none
 other_ends list s facts (Some x) none by = by facts
 
 -- a run that stops at no facts
@@ -87,12 +87,12 @@ no_facts s list ran circles grants = record {
 -- ---- one look
 
 -- a watch that goes on has worked, and has no cause
-pub goes_on_parts : (failed : Bool) (cause : Option Cause) → false ≡ (failed || is_some cause) → (failed ≡ false) × (cause ≡ None)
+pub goes_on_parts : (failed : Bool) (cause : Option StopCause) → false ≡ (failed || is_some cause) → (failed ≡ false) × (cause ≡ None)
 goes_on_parts true cause ended = absurd (false≢true ended)
 goes_on_parts false (Some cause) ended = absurd (false≢true ended)
 goes_on_parts false None ended = (refl, refl)
 
-no-cause : (o : Option Cause) → is_none o ≡ true → o ≡ None
+no-cause : (o : Option StopCause) → is_none o ≡ true → o ≡ None
 no-cause None is = refl
 no-cause (Some x) is = absurd (false≢true is)
 
@@ -100,9 +100,9 @@ saw_none : (v u : LockWatch) (m t : S) → HasLooked v u m t false → told_caus
 saw_none v u m t looked =
     let parts = goes_on_parts u.has_failed u.cause looked.ended in
     no-cause (told_cause (list_of v) (facts_of_round m))
-    (sym (ap (λ (o : Option Cause). ends_for (list_of v) t (facts_of_round m) o) parts.1) ∙ looked.cause parts.0)
+    (sym (ap (λ (o : Option StopCause). ends_for (list_of v) t (facts_of_round m) o) parts.1) ∙ looked.cause parts.0)
 
-has_cause : (failed : Bool) (cause : Option Cause) → true ≡ (failed || is_some cause) → failed ≡ false → is_some cause ≡ true
+has_cause : (failed : Bool) (cause : Option StopCause) → true ≡ (failed || is_some cause) → failed ≡ false → is_some cause ≡ true
 has_cause true cause ended worked = absurd (false≢true (sym worked))
 has_cause false cause ended worked = sym ended
 

@@ -10,10 +10,10 @@ use Rattle.run_events.specs.Runs.{facts_of_round}
 use Rattle.run_events.specs.declared.facts.Fact.{Fact}
 use Rattle.run_events.specs.declared.facts.Fact.TheVariants as fact
 use Rattle.ddt_timeline.specs.Stops.{is_met}
-use Rattle.ddt_timeline.specs.declared.stops.Stop.TheVariants.{At}
+use Rattle.ddt_timeline.specs.declared.stops.StopCondition.TheVariants.{At}
 use Rattle.ddt_moves.specs.declared.lock_watch.LockWatch.{LockWatch}
-use Rattle.ddt_moves.specs.declared.run_stops.Cause.{Cause}
-use Rattle.ddt_moves.specs.declared.run_stops.Cause.TheVariants as cause
+use Rattle.ddt_moves.specs.declared.run_stops.StopCause.{StopCause}
+use Rattle.ddt_moves.specs.declared.run_stops.StopCause.TheVariants as cause
 use Rattle.ddt_moves.specs.declared.stop_lists.Breakpoint.{Breakpoint}
 use Rattle.ddt_moves.specs.declared.stop_lists.StopList.{StopList}
 use Rattle.ddt_moves.specs.declared.visits.Counter.{Counter}
@@ -41,7 +41,7 @@ is_closed (fact.Stopped job why) = false
 is_closed (fact.LoggedOut job) = false
 
 -- why a run ends at the facts of a round, if it does: where a circle of waits closed, or at a grant, if runs stop there
-abbrev pub told_cause : StopList → List Fact → Option Cause
+abbrev pub told_cause : StopList → List Fact → Option StopCause
 told_cause list facts =
     if list_any is_closed facts && list.circles then Some cause.Circle
     else if list_any is_granted facts && list.grants then Some cause.Grant
@@ -62,25 +62,25 @@ counts_at s job address (Some b) = ((b.job == job && b.address == address) && na
 counts_at s job address None = false
 
 -- why a run ends at a breakpoint of this number, if it is set
-abbrev pub cause_of_breakpoint : ℕ → Option Breakpoint → Option Cause
+abbrev pub cause_of_breakpoint : ℕ → Option Breakpoint → Option StopCause
 cause_of_breakpoint number (Some b) = Some (cause.Breakpoint number b.job b.address)
 cause_of_breakpoint number None = None
 
 -- and why at one in a slot, if it is set and counts, and its job stands there
-abbrev pub counted_at : S → ℕ → Option Breakpoint → Option Cause
+abbrev pub counted_at : S → ℕ → Option Breakpoint → Option StopCause
 counted_at s slot (Some b) = if nat_lt 1 b.times && stands s b then cause_of_breakpoint (slot + 1) (Some b) else None
 counted_at s slot None = None
 
-abbrev pub counted_cause : StopList → S → ℕ → Option Cause
+abbrev pub counted_cause : StopList → S → ℕ → Option StopCause
 counted_cause list s slot = counted_at s slot (slice_index_or list.breakpoints slot None)
 
 -- and in this slot, if one is given
-abbrev pub counted_in : StopList → S → Option ℕ → Option Cause
+abbrev pub counted_in : StopList → S → Option ℕ → Option StopCause
 counted_in list s (Some slot) = counted_cause list s slot
 counted_in list s None = None
 
 -- the cause of a run, where that is a breakpoint
-abbrev pub if_breakpoint : Option Cause → Option Cause
+abbrev pub if_breakpoint : Option StopCause → Option StopCause
 if_breakpoint None = None
 if_breakpoint (Some (cause.Breakpoint number job address)) = Some (cause.Breakpoint number job address)
 if_breakpoint (Some (cause.Word job address was)) = None
@@ -93,7 +93,7 @@ if_breakpoint (Some cause.Grant) = None
 -- whether this may be why a run ends in a state where none of its stops holds, if it ends there, by the facts of the round that led
 -- there: at a breakpoint of this number that counts, where its job stands; where this job stands before a call on the lock of the
 -- list; where a circle of waits closed, or at a grant, if runs stop there. Where one of these two is so, it ends
-abbrev pub ends_for : StopList → S → List Fact → Option Cause → Bool
+abbrev pub ends_for : StopList → S → List Fact → Option StopCause → Bool
 ends_for list s facts None = is_none (told_cause list facts)
 ends_for list s facts (Some (cause.Breakpoint number job address)) =
     counts_at s job address (slice_index_or list.breakpoints (number - 1) None)
@@ -105,7 +105,7 @@ ends_for list s facts (Some (cause.Call job)) = stands_at_lock list.lock s job
 ends_for list s facts (Some cause.Grant) = list_any is_granted facts && list.grants
 
 -- whether a run ends at a grant
-abbrev pub is_grant : Option Cause → Bool
+abbrev pub is_grant : Option StopCause → Bool
 is_grant None = false
 is_grant (Some (cause.Breakpoint number job address)) = false
 is_grant (Some (cause.Word job address was)) = false
@@ -130,7 +130,7 @@ abbrev pub counters_of : LockWatch → List Counter
 counters_of w = w.counters.items
 
 -- why it ends a run at one of them, behind a round in which a job ran: that is the first that is due
-abbrev pub due_cause : LockWatch → S → Option ℕ → Option Cause
+abbrev pub due_cause : LockWatch → S → Option ℕ → Option StopCause
 due_cause w s ran = counted_in (list_of w) s (first_due s ran (counters_of w))
 
 -- a watch makes a round from a state m, which leads to t, and says whether the run ends there: where it could look, it has the facts

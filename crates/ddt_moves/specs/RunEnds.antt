@@ -8,7 +8,7 @@ use Rattle.ddt_timeline.specs.declared.stops.WatchedStop.{WatchedStop}
 use Rattle.ddt_moves.specs.OtherEnds.{ends_for, facts_behind, if_breakpoint, told_cause}
 use Rattle.ddt_moves.specs.Starts.{cause_in}
 use Rattle.ddt_moves.specs.Visits.{due_behind}
-use Rattle.ddt_moves.specs.declared.run_stops.Cause.{Cause}
+use Rattle.ddt_moves.specs.declared.run_stops.StopCause.{StopCause}
 use Rattle.ddt_moves.specs.declared.visits.Counter.{Counter}
 use Rattle.ddt_moves.specs.declared.lock_watch.LockWatch.{LockWatch}
 use Rattle.ddt_moves.specs.declared.run_stops.RunStops.{RunStops}
@@ -38,7 +38,7 @@ pub record IsEnd (s : S) (stops : RunStops) (list : StopList) (most : ℕ) (end 
       → some_go_on (after (rounds end.made true) s) ≡ false
 
 -- why a run ends at the breakpoint in this slot, if one is given
-abbrev pub cause_at_slot : StopList → Option ℕ → Option Cause
+abbrev pub cause_at_slot : StopList → Option ℕ → Option StopCause
 cause_at_slot list (Some slot) = cause_in list.breakpoints slot
 cause_at_slot list None = None
 

@@ -11,7 +11,7 @@ use Rattle.machine.specs.declared.view.JobView.{JobView}
 use Rattle.ddt_timeline.specs.declared.entries.Entry.TheVariants.{Start, Continue, Typed}
 use Rattle.ddt_timeline.specs.Histories.{History, done, machine_of}
 use Rattle.ddt_moves.specs.OtherEnds.{cause_of_breakpoint, stands}
-use Rattle.ddt_moves.specs.declared.run_stops.Cause.{Cause}
+use Rattle.ddt_moves.specs.declared.run_stops.StopCause.{StopCause}
 use Rattle.ddt_moves.specs.declared.stop_lists.Breakpoint.{Breakpoint}
 
 -- whether a job that is stopped so was not started yet
@@ -103,5 +103,5 @@ holds_at_start s first last (Some b) = ((nat_le first b.job && nat_le b.job last
 holds_at_start s first last None = false
 
 -- why a run ends at the breakpoint in a slot
-abbrev pub cause_in : List (Option Breakpoint) → ℕ → Option Cause
+abbrev pub cause_in : List (Option Breakpoint) → ℕ → Option StopCause
 cause_in slots slot = cause_of_breakpoint (slot + 1) (slice_index_or slots slot None)

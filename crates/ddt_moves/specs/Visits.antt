@@ -9,7 +9,7 @@ use Rattle.ddt_timeline.specs.Histories.{History}
 use Rattle.ddt_timeline.specs.Stops.{is_met, is_met_at, noted, stands_at}
 use Rattle.ddt_timeline.specs.Timelines.{made, steps_of}
 use Rattle.ddt_timeline.specs.declared.entries.Entry.{Entry}
-use Rattle.ddt_timeline.specs.declared.stops.Stop.TheVariants.{At}
+use Rattle.ddt_timeline.specs.declared.stops.StopCondition.TheVariants.{At}
 use Rattle.ddt_moves.specs.RunStops.{watched}
 use Rattle.ddt_moves.specs.StopLists.{or_slot}
 use Rattle.ddt_moves.specs.declared.stop_lists.Breakpoint.{Breakpoint}

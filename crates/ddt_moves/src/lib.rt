@@ -21,7 +21,7 @@ pub use ends::ended_at;
 pub use input::{InputLines, line_from};
 pub use past_steps::{Turns, last_at, last_turns, last_write};
 pub use replays::Replay;
-pub use run_stops::{Cause, RunStops, stops_of};
+pub use run_stops::{RunStops, StopCause, stops_of};
 pub use runs::{RunEnd, run_to};
 pub use starts::{begin, cause_at_start, go_on, interrupt, is_stopped, start_jobs};
 pub use stop_lists::{Breakpoint, StopList, WatchedWord};

@@ -14,7 +14,7 @@ ghost use Rattle.ddt_moves.specs.OtherEnds.{counters_of as counters_in};
 ghost use Rattle.ddt_moves.specs.Visits.{counters, first_due, stepped};
 
 use crate::lock_calls::stands_before;
-use crate::run_stops::Cause;
+use crate::run_stops::StopCause;
 use crate::stop_lists::StopList;
 use crate::turns::{NUMBERS, pcs_of};
 use crate::visits::{Counter, counted_cause, counters_of, see_rounds};
@@ -39,7 +39,7 @@ pub struct LockWatch<'a> {
     /// Room for the block of a call.
     room: BlockRoom,
     /// Why the run ended, if this watch ended it.
-    pub cause: Option<Cause>,
+    pub cause: Option<StopCause>,
     /// Whether there was too little memory to look.
     pub has_failed: bool,
 }
@@ -51,7 +51,7 @@ pub(crate) fn first_standing(
     first: u8,
     last: u8,
     list: &StopList,
-) -> Option<Cause>
+) -> Option<StopCause>
     ensures ends { ends_for list.now machine.now [] result ≡ true }
     ensures other { if_breakpoint result ≡ None }
 {
@@ -61,7 +61,7 @@ pub(crate) fn first_standing(
     let mut room = BlockRoom::new();
     for number in first..last.saturating_add(1) {
         if stands_before(machine, number, name, &mut room) {
-            return Some(Cause::Call(number));
+            return Some(StopCause::Call(number));
         }
     }
     None
@@ -76,7 +76,7 @@ fn first_caller(
     pcs: &[Option<Address>; NUMBERS],
     ran: Option<u8>,
     room: &mut BlockRoom,
-) -> Option<Cause>
+) -> Option<StopCause>
     ensures ends { IfSome result (λ cause. (facts : List FactView) → ends_for list.now machine.now facts (Some cause) ≡ true) }
     ensures other { if_breakpoint result ≡ None }
 {
@@ -87,7 +87,7 @@ fn first_caller(
         let slot = usize::from(number);
         let has_come = ran == Some(number) || pcs[slot] != before[slot];
         if has_come && stands_before(machine, number, name, room) {
-            return Some(Cause::Call(number));
+            return Some(StopCause::Call(number));
         }
     }
     None
@@ -110,15 +110,15 @@ fn has_circle(facts: &[Fact]) -> bool
 }
 
 /// Whether a run ends at the facts of a round, and why: where a circle of waits closed, or at a grant.
-fn told_cause(list: &StopList, facts: &[Fact]) -> Option<Cause>
+fn told_cause(list: &StopList, facts: &[Fact]) -> Option<StopCause>
     ensures { result ≡ told_cause list.now facts.now }
 {
     // A cause may hold a word: the prover wants its type to be named.
     let _word: Option<Word> = None;
     if has_circle(facts) && list.circles {
-        Some(Cause::Circle)
+        Some(StopCause::Circle)
     } else if has_grant(facts) && list.grants {
-        Some(Cause::Grant)
+        Some(StopCause::Grant)
     } else {
         None
     }
@@ -130,7 +130,7 @@ fn first_counted(
     machine: &Machine,
     ran: Option<u8>,
     list: &StopList,
-) -> Option<Cause>
+) -> Option<StopCause>
     ensures ends { IfSome result (λ cause. (facts : List FactView) → ends_for list.now machine.now facts (Some cause) ≡ true) }
     ensures seen { counters.new ≡ map (stepped machine.now ran) counters.old }
     ensures first { result ≡ counted_in list.now machine.now (first_due machine.now ran counters.old) }
@@ -163,7 +163,7 @@ impl<'a> LockWatch<'a> {
     }
 
     /// Why the run ends after a round in which a job ran, whose facts it has, if it does.
-    fn look(&mut self, machine: &Machine, ran: Option<u8>) -> Option<Cause>
+    fn look(&mut self, machine: &Machine, ran: Option<u8>) -> Option<StopCause>
         ensures list { list_of self.new ≡ list_of self.old }
         ensures facts { facts_of self.new ≡ facts_of self.old }
         ensures failed { self.new.has_failed ≡ self.old.has_failed }

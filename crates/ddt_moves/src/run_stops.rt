@@ -6,13 +6,13 @@ ghost use Rattle.ddt_moves.specs.RunStops.{stop_at, stop_if_each, stop_of_word, 
 
 use crate::stop_lists::{Breakpoint, StopList, WatchedWord};
 use concrete_machine::Machine;
-use ddt_timeline::{Stop, WatchedStop};
+use ddt_timeline::{StopCondition, WatchedStop};
 use std::alloc::{AllocError, Global};
 use word36::{Address, Word};
 
 /// Why a run stopped.
 #[derive(Clone, Copy)]
-pub enum Cause {
+pub enum StopCause {
     /// A job came to the breakpoint of this number, from 1: the job and the address.
     Breakpoint(usize, u8, u32),
     /// A watched word of a job changed: the job, the address, and the word before.
@@ -35,38 +35,38 @@ pub struct RunStops {
     /// The stops.
     pub stops: Vec<WatchedStop>,
     /// For each stop why a run stopped that it ended.
-    pub causes: Vec<Cause>,
+    pub causes: Vec<StopCause>,
     /// The addresses of the stops at addresses.
     pub addresses: Vec<Address>,
 }
 
 /// Why a run stopped that a stop ended, where it is that of the breakpoint of this number, or 0 where it is that of none.
-fn cause_of(number: usize, stop: &Stop) -> Cause
+fn cause_of(number: usize, stop: &StopCondition) -> StopCause
     ensures { result ≡ cause_of number stop.now }
 {
     match *stop {
-        Stop::At(job, address, _) => {
+        StopCondition::At(job, address, _) => {
             if number > 0 {
-                Cause::Breakpoint(number, job, address.number())
+                StopCause::Breakpoint(number, job, address.number())
             } else {
-                Cause::Own
+                StopCause::Own
             }
         }
-        Stop::Turn(_) | Stop::End(_) => Cause::Own,
-        Stop::Word(job, address, was) => Cause::Word(job, address, was),
-        Stop::Input => Cause::Input,
+        StopCondition::Turn(_) | StopCondition::End(_) => StopCause::Own,
+        StopCondition::Word(job, address, was) => StopCause::Word(job, address, was),
+        StopCondition::Input => StopCause::Input,
     }
 }
 
 impl RunStops {
     /// Adds a stop, with the number of its breakpoint, or 0.
-    pub fn add(&mut self, stop: Stop, number: usize) -> Result<(), AllocError>
+    pub fn add(&mut self, stop: StopCondition, number: usize) -> Result<(), AllocError>
         ensures stops { OnOk result (self.new.stops.items ≡ self.old.stops.items ++ watched stop ∷ []) }
         ensures causes { OnOk result (self.new.causes.items ≡ self.old.causes.items ++ cause_of number stop ∷ []) }
     {
         // A stop may hold a word, or none: the prover wants that type to be named.
         let _word: Option<Word> = None;
-        if let Stop::At(_, address, _) = stop {
+        if let StopCondition::At(_, address, _) = stop {
             self.addresses.push(address)?;
         }
         self.causes.push(cause_of(number, &stop))?;
@@ -75,7 +75,7 @@ impl RunStops {
     }
 
     /// Adds the stops of a command, which are no breakpoints.
-    fn add_own(&mut self, own: &[Stop]) -> Result<(), AllocError>
+    fn add_own(&mut self, own: &[StopCondition]) -> Result<(), AllocError>
         ensures stops { OnOk result (self.new.stops.items ≡ self.old.stops.items ++ map watched own.now) }
         ensures causes { OnOk result (self.new.causes.items ≡ self.old.causes.items ++ map (cause_of 0) own.now) }
     {
@@ -139,13 +139,13 @@ impl RunStops {
     {
         for one in words {
             let word = machine.peek(one.job, one.address);
-            self.add(Stop::Word(one.job, one.address, word), 0)?;
+            self.add(StopCondition::Word(one.job, one.address, word), 0)?;
         }
         Ok(())
     }
 
     /// Why a run stopped that the stop at this position ended, if one did.
-    pub fn cause(&self, stop: Option<usize>) -> Option<Cause>
+    pub fn cause(&self, stop: Option<usize>) -> Option<StopCause>
         ensures { result ≡ cause_at self.now.causes.items stop }
     {
         match stop {
@@ -159,7 +159,7 @@ impl RunStops {
 pub fn stops_of(
     alloc: Global,
     machine: &Machine,
-    own: &[Stop],
+    own: &[StopCondition],
     list: &StopList,
 ) -> Result<RunStops, AllocError>
     ensures stops { IfOk result (λ run. run.stops.items ≡ map watched own.now ++ map watched (stops_in machine.now list.now)) }

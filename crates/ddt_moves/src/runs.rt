@@ -11,7 +11,7 @@ ghost use Rattle.ddt_moves.specs.RunStops.{cause_at};
 ghost use Rattle.ddt_moves.specs.Visits.{counters};
 
 use crate::lock_watch::LockWatch;
-use crate::run_stops::{Cause, RunStops};
+use crate::run_stops::{RunStops, StopCause};
 use crate::stop_lists::StopList;
 use ddt_timeline::{NoWatch, Run, Timeline};
 use run_notes::grant_lines;
@@ -23,7 +23,7 @@ pub struct RunEnd {
     /// How many steps it made, each followed by a tick.
     pub made: u32,
     /// What ended it, if a stop did.
-    pub cause: Option<Cause>,
+    pub cause: Option<StopCause>,
     /// Whether it made as many steps as it may.
     pub is_cut: bool,
 }
@@ -43,7 +43,7 @@ impl RunEnd {
     }
 
     /// The end of a run that makes no step.
-    pub fn at_once(cause: Option<Cause>) -> Self
+    pub fn at_once(cause: Option<StopCause>) -> Self
         ensures made { result.made ≡ 0 }
         ensures cause { result.cause ≡ cause }
         ensures cut { result.is_cut ≡ false }

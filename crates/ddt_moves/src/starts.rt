@@ -12,7 +12,7 @@ ghost use Rattle.ddt_moves.specs.OtherEnds.{counted_cause, ends_for, if_breakpoi
 ghost use Rattle.ddt_moves.specs.Visits.{counters, first_due_at_start};
 
 use crate::lock_watch::first_standing;
-use crate::run_stops::Cause;
+use crate::run_stops::StopCause;
 use crate::stop_lists::{Breakpoint, StopList};
 use crate::visits::{counted_cause, counters_of, stands};
 use concrete_machine::Machine;
@@ -150,14 +150,14 @@ fn first_at_start(
 }
 
 /// Why a run ends at the breakpoint in a slot.
-fn cause_in(slots: &[Option<Breakpoint>], slot: usize) -> Option<Cause>
+fn cause_in(slots: &[Option<Breakpoint>], slot: usize) -> Option<StopCause>
     requires { slot < length slots.now }
     ensures { result ≡ cause_in slots.now slot }
 {
     // A cause may hold a word: the prover wants its type to be named.
     let _word: Option<Word> = None;
     match &slots[slot] {
-        Some(one) => Some(Cause::Breakpoint(slot + 1, one.job, one.address.number())),
+        Some(one) => Some(StopCause::Breakpoint(slot + 1, one.job, one.address.number())),
         None => None,
     }
 }
@@ -169,7 +169,7 @@ fn other_cause(
     first: u8,
     last: u8,
     list: &StopList,
-) -> Result<Option<Cause>, AllocError>
+) -> Result<Option<StopCause>, AllocError>
     ensures ends { IfOk result (λ cause. ends_for list.now (machine_of (history timeline.now)) [] cause ≡ true) }
     ensures counted { IfOk result (λ cause.
         IfSome (first_due_at_start first last (counters (history timeline.now) list.now))
@@ -193,7 +193,7 @@ pub fn cause_at_start(
     first: u8,
     last: u8,
     list: &StopList,
-) -> Result<Option<Cause>, AllocError>
+) -> Result<Option<StopCause>, AllocError>
     ensures breakpoint { IfOk result (λ cause.
         IfSome (position (holds_at_start (machine_of (history timeline.now)) first last) list.now.breakpoints)
         (λ slot. cause ≡ cause_in list.now.breakpoints slot)) }

@@ -9,7 +9,7 @@ ghost use Rattle.ddt_moves.specs.StopLists.{is_other, is_same, is_watched_then, 
 
 use arrayvec::ArrayVec;
 use ddt_breakpoints::{BREAKPOINTS, Condition};
-use ddt_timeline::Stop;
+use ddt_timeline::StopCondition;
 use lock_queue::Name;
 use word36::{Address, Word};
 
@@ -35,12 +35,12 @@ impl Breakpoint {
     }
 
     /// Where it stops a run, if each time counts.
-    pub fn stop(&self) -> Stop
-        ensures { result ≡ Stop.At self.now.job self.now.address self.now.condition }
+    pub fn stop(&self) -> StopCondition
+        ensures { result ≡ StopCondition.At self.now.job self.now.address self.now.condition }
     {
         // A stop may hold a word, of which this has none: the prover wants its type to be named.
         let _word: Option<Word> = None;
-        Stop::At(self.job, self.address, self.condition)
+        StopCondition::At(self.job, self.address, self.condition)
     }
 }
 

@@ -9,10 +9,10 @@ ghost use Rattle.ddt_moves.specs.Visits.{behind, comes_due, counter_of, counters
 ghost use Rattle.ddt_moves.specs.Visits.{seen_before, slot_if, stepped, visits_with};
 
 use crate::replays::Replay;
-use crate::run_stops::Cause;
+use crate::run_stops::StopCause;
 use crate::stop_lists::{Breakpoint, StopList};
 use concrete_machine::Machine;
-use ddt_timeline::{Stop, Timeline, WatchedStop, stands_at};
+use ddt_timeline::{StopCondition, Timeline, WatchedStop, stands_at};
 use std::alloc::{AllocError, Global};
 use word36::{Address, Word};
 
@@ -128,7 +128,7 @@ pub fn stands(machine: &Machine, breakpoint: &Breakpoint) -> bool
 }
 
 /// Why a run ends at the breakpoint in a slot, if it is set and counts, and its job stands there.
-pub fn counted_cause(machine: &Machine, list: &StopList, slot: usize) -> Option<Cause>
+pub fn counted_cause(machine: &Machine, list: &StopList, slot: usize) -> Option<StopCause>
     ensures ends { IfSome result (λ cause. (facts : List FactView) → ends_for list.now machine.now facts (Some cause) ≡ true) }
     ensures cause { result ≡ counted_cause list.now machine.now slot }
 {
@@ -142,7 +142,7 @@ pub fn counted_cause(machine: &Machine, list: &StopList, slot: usize) -> Option<
         return None;
     };
     if one.counts() && stands(machine, one) {
-        Some(Cause::Breakpoint(slot + 1, one.job, one.address.number()))
+        Some(StopCause::Breakpoint(slot + 1, one.job, one.address.number()))
     } else {
         None
     }
@@ -202,7 +202,7 @@ fn new_counters(alloc: Global, slots: &[Option<Breakpoint>]) -> Result<Vec<Count
     ensures { IfOk result (λ found. found.items ≡ counters_from 0 slots.now) }
 {
     // A counter has a stop, and that may hold a word: the prover wants their types to be named.
-    let _types: (Option<WatchedStop>, Option<Stop>, Option<Word>) = (None, None, None);
+    let _types: (Option<WatchedStop>, Option<StopCondition>, Option<Word>) = (None, None, None);
     let mut counters = Vec::new(alloc);
     for i in 0..slots.len() {
         if let Some(one) = &slots[i] {

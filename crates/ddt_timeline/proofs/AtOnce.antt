@@ -13,8 +13,8 @@ use Rattle.machine.specs.Views.{job_view, view_of}
 use Rattle.machine.specs.declared.view.JobView.{JobView}
 use Rattle.ddt_timeline.specs.Stops.{fits, has_pc, is_at, is_at_one_of, is_job, is_met, is_met_at, is_within, noted, met_after, round, stands_at}
 use Rattle.ddt_timeline.specs.declared.stops.WatchedStop.{WatchedStop}
-use Rattle.ddt_timeline.specs.declared.stops.Stop.{Stop}
-use Rattle.ddt_timeline.specs.declared.stops.Stop.TheVariants.{At, Turn, End, Word, Input}
+use Rattle.ddt_timeline.specs.declared.stops.StopCondition.{StopCondition}
+use Rattle.ddt_timeline.specs.declared.stops.StopCondition.TheVariants.{At, Turn, End, Word, Input}
 use Rattle.ddt_timeline.proofs.RunLemmas.{rounds-one_more}
 
 -- where a job stands
@@ -67,7 +67,7 @@ come-same true x y z same = refl
 come-same false x y z same = ap (λ (c : Bool). x && not c) (same refl)
 
 -- it does not matter before which of two near states it is noted
-stop-same : (addresses : List ℕ) (job : Option ℕ) (m u t : S) (stop : Stop) → is_at_one_of addresses stop ≡ true → Near m u job
+stop-same : (addresses : List ℕ) (job : Option ℕ) (m u t : S) (stop : StopCondition) → is_at_one_of addresses stop ≡ true → Near m u job
     → is_met (is_at m stop) t job stop ≡ is_met (is_at u stop) t job stop
 stop-same addresses job m u t (At n a c) within near =
     ap (λ (b : Bool). b && fits t n c) (come-same (is_job job n) (stands_at (job_view t.world n) a) (has_pc (job_view m.world n) a) (has_pc (job_view u.world n) a)
@@ -88,7 +88,7 @@ come-none false x true gone kept = and-none x false refl
 come-none false x false gone kept = ap (λ (c : Bool). c && true) (kept refl refl)
 
 -- and it does not hold where the job that runs stands at none of the addresses, and nobody else has moved
-stop-none : (addresses : List ℕ) (job : Option ℕ) (u t : S) (stop : Stop) → is_at_one_of addresses stop ≡ true → Near u t job
+stop-none : (addresses : List ℕ) (job : Option ℕ) (u t : S) (stop : StopCondition) → is_at_one_of addresses stop ≡ true → Near u t job
     → does_end (is_among addresses) (pc_on t job) ≡ false
     → is_met (is_at u stop) t job stop ≡ false
 stop-none addresses job u t (At n a c) within near none =

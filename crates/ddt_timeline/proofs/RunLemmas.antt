@@ -8,7 +8,7 @@ use Rattle.ddt_timeline.specs.Stops.{noted, ran_of, round, stops_of}
 use Rattle.ddt_timeline.specs.Timelines.{made, played, reached, steps_in, steps_of}
 use Rattle.ddt_timeline.specs.declared.entries.Entry.{Entry}
 use Rattle.ddt_timeline.specs.declared.entries.Entry.TheVariants.{Rounds}
-use Rattle.ddt_timeline.specs.declared.stops.Stop.{Stop}
+use Rattle.ddt_timeline.specs.declared.stops.StopCondition.{StopCondition}
 use Rattle.ddt_timeline.specs.declared.stops.WatchedStop.{WatchedStop}
 
 -- a step's answer names the job that ran
@@ -55,7 +55,7 @@ noted_again (p ∷ ps) s t = ap (λ (qs : List WatchedStop). noted t p ∷ qs) (
 
 noted_stops : (stops : List WatchedStop) (m : S) → stops_of (map (noted m) stops) ≡ stops_of stops
 noted_stops [] m = refl
-noted_stops (p ∷ ps) m = ap (λ (l : List Stop). p.stop ∷ l) (noted_stops ps m)
+noted_stops (p ∷ ps) m = ap (λ (l : List StopCondition). p.stop ∷ l) (noted_stops ps m)
 
 -- stops that were noted are the same stops
 pub same_stops : (stops seen : List WatchedStop) (m : S) → seen ≡ map (noted m) stops → stops_of seen ≡ stops_of stops

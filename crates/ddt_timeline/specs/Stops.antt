@@ -14,8 +14,8 @@ use Rattle.machine.specs.declared.event.Answer.{Answer}
 use Rattle.machine.specs.declared.event.Answer.TheVariants.{Ran, Idle, Done, Text, JobNumber, Refused}
 use Rattle.machine.specs.declared.view.JobView.{JobView}
 use Rattle.ddt_timeline.specs.declared.stops.WatchedStop.{WatchedStop}
-use Rattle.ddt_timeline.specs.declared.stops.Stop.{Stop}
-use Rattle.ddt_timeline.specs.declared.stops.Stop.TheVariants.{At, Turn, End, Word, Input}
+use Rattle.ddt_timeline.specs.declared.stops.StopCondition.{StopCondition}
+use Rattle.ddt_timeline.specs.declared.stops.StopCondition.TheVariants.{At, Turn, End, Word, Input}
 
 -- the job that ran, by the answer to a step
 abbrev pub ran_of : Answer → Option ℕ
@@ -77,7 +77,7 @@ does_some_wait_for_input s (Some job) = waits_for_input (job_view s.world job)
 does_some_wait_for_input s None = false
 
 -- whether a stop is at an address where the PC of its job is
-abbrev pub is_at : S → Stop → Bool
+abbrev pub is_at : S → StopCondition → Bool
 is_at s (At job address condition) = has_pc (job_view s.world job) address
 is_at s (Turn job) = false
 is_at s (End job) = false
@@ -97,7 +97,7 @@ fits s job None = true
 -- whether a stop holds after a round in which a job ran, where stood is for has_come: the job came to the address, and the
 -- condition holds there; or it had its turn; or it had its turn and is stopped or gone; or the word is another; or the job
 -- that ran waits for characters
-abbrev pub is_met : Bool → S → Option ℕ → Stop → Bool
+abbrev pub is_met : Bool → S → Option ℕ → StopCondition → Bool
 is_met stood s ran (At job address condition) = has_come stood ran job (stands_at (job_view s.world job) address) && fits s job condition
 is_met stood s ran (Turn job) = is_job ran job
 is_met stood s ran (End job) = is_job ran job && has_ended (job_view s.world job)
@@ -109,7 +109,7 @@ abbrev pub noted : S → WatchedStop → WatchedStop
 noted s p = record p { stood = is_at s p.stop }
 
 -- the stops that are watched
-abbrev pub stops_of : List WatchedStop → List Stop
+abbrev pub stops_of : List WatchedStop → List StopCondition
 stops_of stops = map (λ p. p.stop) stops
 
 -- whether a watched stop holds after a round in which a job ran
@@ -121,7 +121,7 @@ abbrev pub met_after : List WatchedStop → S → Option ℕ
 met_after stops s = position (is_met_at (round s) (next_in s)) (map (noted s) stops)
 
 -- whether a stop is at an address, and that is one of some
-abbrev pub is_at_one_of : List ℕ → Stop → Bool
+abbrev pub is_at_one_of : List ℕ → StopCondition → Bool
 is_at_one_of addresses (At job address condition) = is_among addresses address
 is_at_one_of addresses (Turn job) = false
 is_at_one_of addresses (End job) = false

@@ -10,5 +10,7 @@ mod timeline;
 pub use entries::{Entry, perform, play};
 pub use laws::going_back_loses_nothing;
 pub use recording::push_past;
-pub use stops::{NoWatch, Run, Stop, Watch, WatchedStop, round, run_until, some_go_on, stands_at};
+pub use stops::{
+    NoWatch, Run, StopCondition, Watch, WatchedStop, round, run_until, some_go_on, stands_at,
+};
 pub use timeline::{Timeline, let_go};

@@ -19,7 +19,7 @@ use word36::{Address, Image, JOBS, Word};
 
 /// Where a run stops.
 #[derive(Clone, Copy)]
-pub enum Stop {
+pub enum StopCondition {
     /// A job came to an address: it stands there and is not stopped, and it had its turn, or its PC was elsewhere before, as
     /// where a time limit ends and a tick puts the PC to the error return. Where there is a condition, that holds of the job's
     /// words there.
@@ -38,7 +38,7 @@ pub enum Stop {
 #[derive(Clone, Copy)]
 pub struct WatchedStop {
     /// The stop.
-    pub stop: Stop,
+    pub stop: StopCondition,
     /// Whether it is at an address where the PC of its job was before this round.
     pub stood: bool,
 }
@@ -184,11 +184,11 @@ fn has_ended(machine: &Machine, job: u8) -> bool
 
 /// Whether a stop is at an address where the PC of its job is.
 #[inline(always)]
-fn is_at(machine: &Machine, stop: &Stop) -> bool
+fn is_at(machine: &Machine, stop: &StopCondition) -> bool
     ensures { result ≡ is_at machine.now stop.now }
 {
     match *stop {
-        Stop::At(job, address, _) => has_pc(machine, job, address),
+        StopCondition::At(job, address, _) => has_pc(machine, job, address),
         _ => false,
     }
 }
@@ -235,19 +235,19 @@ fn fits(machine: &Machine, job: u8, condition: Option<Condition>) -> bool
 /// Whether a stop holds after a round in which a job ran, where `stood` says whether the PC of its job was at its address
 /// before.
 #[inline(always)]
-fn is_met(machine: &Machine, ran: Option<u8>, stop: &Stop, stood: bool) -> bool
+fn is_met(machine: &Machine, ran: Option<u8>, stop: &StopCondition, stood: bool) -> bool
     ensures { result ≡ is_met stood machine.now ran stop.now }
 {
     match *stop {
-        Stop::At(job, address, condition) => {
+        StopCondition::At(job, address, condition) => {
             stands_at(machine, job, address)
                 && (ran == Some(job) || !stood)
                 && fits(machine, job, condition)
         }
-        Stop::Turn(job) => ran == Some(job),
-        Stop::End(job) => ran == Some(job) && has_ended(machine, job),
-        Stop::Word(job, address, word) => !is_word(machine.peek(job, address), word),
-        Stop::Input => match ran {
+        StopCondition::Turn(job) => ran == Some(job),
+        StopCondition::End(job) => ran == Some(job) && has_ended(machine, job),
+        StopCondition::Word(job, address, word) => !is_word(machine.peek(job, address), word),
+        StopCondition::Input => match ran {
             Some(job) => waits_for_input(machine, job),
             None => false,
         },
@@ -348,11 +348,11 @@ fn is_among(addresses: &[Address], address: Address) -> bool
 }
 
 /// Whether a stop is at an address, and that is one of some.
-fn is_at_one_of(addresses: &[Address], stop: &Stop) -> bool
+fn is_at_one_of(addresses: &[Address], stop: &StopCondition) -> bool
     ensures { result ≡ is_at_one_of addresses.now stop.now }
 {
     match *stop {
-        Stop::At(_, address, _) => is_among(addresses, address),
+        StopCondition::At(_, address, _) => is_among(addresses, address),
         _ => false,
     }
 }

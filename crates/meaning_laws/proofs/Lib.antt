@@ -1,1 +1,4 @@
 pub mod Example
+pub mod Written
+pub mod WrittenNumbers
+pub mod WrittenWords

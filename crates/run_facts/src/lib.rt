@@ -5,6 +5,6 @@ mod standing;
 mod statuses;
 mod typing;
 
-pub use standing::{Cut, Ending, Standing, has_ended_well, status_of};
+pub use standing::{Cut, RunOutcome, Standing, has_ended_well, status_of};
 pub use statuses::{CIRCLE, CUT, DONE, FAULT, REFUSED, UNASKED_CUT};
 pub use typing::{Target, target_of};

@@ -89,7 +89,7 @@ impl Cut {
 
 /// What else is known of the end of a run.
 #[derive(Clone, Copy, Debug, PartialEq, Eq)]
-pub struct Ending {
+pub struct RunOutcome {
     /// Whether jobs wait in a circle.
     pub has_circle: bool,
     /// Whether it was cut.
@@ -98,7 +98,7 @@ pub struct Ending {
 
 /// The exit status of a run: 4 where jobs wait in a circle; else 6 where a job was stopped at a fault;
 /// else 0 where all jobs ended well; else 5 or 7 where the run was cut; else 1.
-pub fn status_of(ending: Ending, standings: &[Standing]) -> u8
+pub fn status_of(ending: RunOutcome, standings: &[Standing]) -> u8
     ensures { result ≡ status_of ending.has_circle ending.cut standings.now }
 {
     if ending.has_circle {

@@ -100,7 +100,7 @@ fn push_pool(text: &mut String, pool: Option<Pool>) -> Result<(), AllocError>
 }
 
 /// The sign of an option where it is taken.
-fn sign(is_taken: bool, sign: &'static str) -> &'static str
+pub fn sign(is_taken: bool, sign: &'static str) -> &'static str
     ensures { result.now ≡ (if is_taken then sign.now else []) }
 {
     if is_taken { sign } else { "" }

@@ -1,6 +1,7 @@
 //! Labels, and the addresses that are written by them.
 ghost use Rattle.std.specs.Prelude.{◌≡◌, ◌<◌, ◌≤◌, ◌↔◌, [], All, None, IsNone, IfSome, Contains};
-ghost use Rattle.source_labels.specs.Labels.{reach};
+ghost use Rattle.std.specs.Fmt.{WritesOnOk};
+ghost use Rattle.source_labels.specs.Labels.{latest_from, name_words, nearer, nearest_label, reach};
 
 use std::fmt;
 use word36::Address;
@@ -16,18 +17,44 @@ pub struct Label {
     pub end: u32,
 }
 
-/// Writes a name of six characters in SIXBIT without its blanks.
-pub fn write_name<W: fmt::Write>(name: u64, f: &mut fmt::Formatter<W>) -> fmt::Result {
-    for shift in [30u32, 24, 18, 12, 6, 0] {
-        let code = (name >> shift & 0o77) as u8;
-        if code != 0 {
-            f.write_char(char::from(code + 0o40))?;
+/// The character that a number has in its low six bits, in SIXBIT; nothing for a blank, of code 0.
+#[derive(Clone, Copy)]
+struct Character(u64);
+
+impl fmt::Display for Character {
+    ghost use Rattle.std.specs.Prelude.{Some};
+    ghost use Rattle.source_labels.specs.Labels.{character_of};
+
+    ghost output = { λ c. Some (character_of c.0) };
+
+    fn fmt<W: fmt::Write>(&self, f: &mut fmt::Formatter<W>) -> fmt::Result {
+        let code = (self.0 % 64) as u8;
+        if code == 0 {
+            return Ok(());
         }
+        f.write_char(char::from(code + 0o40))
     }
-    Ok(())
+}
+
+/// Writes a name of six characters in SIXBIT without its blanks.
+pub fn write_name<W: fmt::Write>(name: u64, f: &mut fmt::Formatter<W>) -> fmt::Result
+    ensures { WritesOnOk W.write_str_gives f.old result (name_words name) f.new }
+{
+    let (one, two, three) = (
+        Character(name >> 30),
+        Character(name >> 24),
+        Character(name >> 18),
+    );
+    let (four, five, six) = (Character(name >> 12), Character(name >> 6), Character(name));
+    write!(f, "{one}{two}{three}{four}{five}{six}")
 }
 
 impl fmt::Display for Label {
+    ghost use Rattle.std.specs.Prelude.{Some};
+    ghost use Rattle.source_labels.specs.Labels.{name_words};
+
+    ghost output = { λ l. Some (name_words l.name) };
+
     fn fmt<W: fmt::Write>(&self, f: &mut fmt::Formatter<W>) -> fmt::Result {
         write_name(self.name, f)
     }
@@ -45,20 +72,36 @@ fn reach(place: Address, label: Address, end: u32) -> u32
     }
 }
 
-/// The label that is nearest to an address, if there is any label.
-fn latest(labels: &[Label], place: Address) -> Option<&Label>
-    ensures empty { IsNone result ↔ (labels.now ≡ []) }
-    ensures there { IfSome result (λ l. Contains labels.now l.now) }
-    ensures most { IfSome result (λ l. All (λ m. reach place m.place m.end ≤ reach place l.now.place l.now.end) labels.now) }
+/// The nearer of a label, if there is one, and another; of two at one address the other.
+fn nearer(place: Address, best: Option<Label>, other: Label) -> Label
+    ensures { result ≡ nearer place best other }
 {
-    labels
-        .iter()
-        .max_by_key(|label| reach(place, label.place, label.end))
+    match best {
+        Some(best) if reach(place, other.place, other.end) < reach(place, best.place, best.end) => {
+            best
+        }
+        _ => other,
+    }
+}
+
+/// The label that is nearest to an address, if there is any label; of several that are as near the last.
+fn latest(labels: &[Label], place: Address) -> Option<Label>
+    ensures value { result ≡ latest_from place None labels.now }
+    ensures empty { IsNone result ↔ (labels.now ≡ []) }
+    ensures there { IfSome result (λ l. Contains labels.now l) }
+    ensures most { IfSome result (λ l. All (λ m. reach place m.place m.end ≤ reach place l.place l.end) labels.now) }
+{
+    let mut best = None;
+    for label in labels {
+        best = Some(nearer(place, best, *label));
+    }
+    best
 }
 
 /// The label at an address or, of those before it in its block, the nearest; of several at one address the last.
 #[tactic(auto, using(crate::proofs::Nearby::nearest_of, crate::proofs::Nearby::none_before, crate::proofs::Nearby::none_within))]
 pub fn nearest(labels: &[Label], place: Address) -> Option<Label>
+    ensures value { result ≡ nearest_label labels.now place }
     ensures there { IfSome result (λ l. Contains labels.now l) }
     ensures before { IfSome result (λ l. l.place ≤ place) }
     ensures within { IfSome result (λ l. place < l.end) }
@@ -69,5 +112,5 @@ pub fn nearest(labels: &[Label], place: Address) -> Option<Label>
     if label.place > place || label.end <= place.number() {
         return None;
     }
-    Some(*label)
+    Some(label)
 }

@@ -1,7 +1,9 @@
 //! The labels and the literals of a source, with their addresses.
 
-ghost use Rattle.std.specs.Prelude.{◌≡◌, ◌<◌, ◌^◌, [], ◌++◌, IfOk, OnOk, if◌then◌else◌, map};
+ghost use Rattle.std.specs.Prelude.{◌≡◌, ◌<◌, ◌^◌, [], ◌++◌, IfOk, OnOk, if◌then◌else◌, map, option_copied};
+ghost use Rattle.std.specs.List.{find};
 ghost use Rattle.source_labels.specs.Places.{ArePlaces, AreAdded, ends_block, labels_at, literals_of, run_end, with_end};
+ghost use Rattle.source_labels.specs.Spots.{have, literals_at, named_number};
 
 use crate::labels::{Label, write_name};
 use mac_layout::{Layout, MEMORY_SIZE, clamped};
@@ -31,6 +33,11 @@ pub struct NamedNumber {
 }
 
 impl fmt::Display for NamedNumber {
+    ghost use Rattle.std.specs.Prelude.{Some};
+    ghost use Rattle.source_labels.specs.Labels.{name_words};
+
+    ghost output = { λ n. Some (name_words n.name) };
+
     fn fmt<W: fmt::Write>(&self, f: &mut fmt::Formatter<W>) -> fmt::Result {
         write_name(self.name, f)
     }
@@ -50,17 +57,27 @@ pub struct Places {
 }
 
 impl Places {
+    /// The first pool that has an address.
+    fn pool_at(&self, place: Address) -> Option<&Literals>
+        ensures { option_copied result ≡ find (have place) self.now.pools.items }
+    {
+        self.pools.iter().find(|pool| pool.have(place))
+    }
+
     /// The literals among which an address is.
-    pub fn literals_at(&self, place: Address) -> Option<Literals> {
+    pub fn literals_at(&self, place: Address) -> Option<Literals>
+        ensures { result ≡ literals_at self.now place }
+    {
         if self.literals.have(place) {
             return Some(self.literals);
         }
-        let pool = self.pools.iter().find(|pool| pool.have(place))?;
-        Some(*pool)
+        self.pool_at(place).copied()
     }
 
     /// The name by which an accumulator is written: of those that the source assigned its number to by one `=`, the first.
-    pub fn accumulator(&self, number: u32) -> Option<&NamedNumber> {
+    pub fn accumulator(&self, number: u32) -> Option<&NamedNumber>
+        ensures { option_copied result ≡ named_number self.now number }
+    {
         let wanted = Word::low_bits(u64::from(number));
         self.numbers
             .iter()
@@ -70,7 +87,9 @@ impl Places {
 
 impl Literals {
     /// Whether an address is a literal's.
-    pub fn have(self, place: Address) -> bool {
+    pub fn have(self, place: Address) -> bool
+        ensures { result ≡ have place self }
+    {
         self.first <= place.number() && place.number() < self.end
     }
 }

@@ -1,7 +1,10 @@
 //! Addresses as a person reads them.
+ghost use Rattle.std.specs.Prelude.{Some};
+ghost use Rattle.std.specs.Fmt.{WritesOnOk};
+ghost use Rattle.source_labels.specs.Spots.{label_spot, literal_spot, offset_words, spot_words};
 
-use crate::labels::nearest;
-use crate::places::Places;
+use crate::labels::{Label, nearest};
+use crate::places::{Literals, Places};
 use std::fmt;
 use word36::Address;
 
@@ -15,38 +18,72 @@ pub struct Spot<'a> {
     pub place: Address,
 }
 
-/// Writes how far an address is behind another, unless they are the same.
-fn write_offset<W: fmt::Write>(
-    place: Address,
+/// How far an address is after another; nothing if they are the same.
+#[derive(Clone, Copy)]
+struct Offset {
+    place: u32,
     from: u32,
-    f: &mut fmt::Formatter<W>,
-) -> fmt::Result {
-    let offset = place.number().saturating_sub(from);
-    if offset == 0 {
-        return Ok(());
+}
+
+impl fmt::Display for Offset {
+    ghost output = { λ o. Some (offset_words o.place o.from) };
+
+    fn fmt<W: fmt::Write>(&self, f: &mut fmt::Formatter<W>) -> fmt::Result {
+        let offset = self.place.saturating_sub(self.from);
+        if offset == 0 {
+            return Ok(());
+        }
+        write!(f, "+{offset:o}")
     }
-    write!(f, "+{offset:o}")
+}
+
+/// Writes an address by a label.
+fn write_by_label<W: fmt::Write>(
+    place: Address,
+    label: &Label,
+    f: &mut fmt::Formatter<W>,
+) -> fmt::Result
+    ensures { WritesOnOk W.write_str_gives f.old result (label_spot place label.now) f.new }
+{
+    let offset = Offset {
+        place: place.number(),
+        from: label.place.number(),
+    };
+    write!(f, "{label}{offset}")
+}
+
+/// Writes an address among literals.
+fn write_by_literals<W: fmt::Write>(
+    place: Address,
+    literals: Literals,
+    f: &mut fmt::Formatter<W>,
+) -> fmt::Result
+    ensures { WritesOnOk W.write_str_gives f.old result (literal_spot place literals) f.new }
+{
+    let offset = Offset {
+        place: place.number(),
+        from: literals.first,
+    };
+    write!(f, "[..{offset}]")
 }
 
 impl fmt::Display for Spot<'_> {
+    ghost output = { λ s. Some (spot_words s.places.now s.place) };
+
     fn fmt<W: fmt::Write>(&self, f: &mut fmt::Formatter<W>) -> fmt::Result {
         let (places, place) = (self.places, self.place);
-        let literals = places.literals_at(place);
-        if let Some(label) = nearest(places.labels.as_slice(), place) {
-            let is_nearer = match literals {
-                Some(literals) => literals.first <= label.place.number(),
-                None => true,
-            };
-            if is_nearer {
-                write!(f, "{label}")?;
-                return write_offset(place, label.place.number(), f);
+        let label = nearest(places.labels.as_slice(), place);
+        match (label, places.literals_at(place)) {
+            (None, None) => write!(f, "{place}"),
+            (None, Some(literals)) => write_by_literals(place, literals, f),
+            (Some(label), None) => write_by_label(place, &label, f),
+            (Some(label), Some(literals)) => {
+                if literals.first <= label.place.number() {
+                    write_by_label(place, &label, f)
+                } else {
+                    write_by_literals(place, literals, f)
+                }
             }
         }
-        let Some(literals) = literals else {
-            return write!(f, "{place}");
-        };
-        f.write_str("[..")?;
-        write_offset(place, literals.first, f)?;
-        f.write_str("]")
     }
 }

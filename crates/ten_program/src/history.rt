@@ -1,4 +1,5 @@
 //! The last steps of a job.
+ghost use Rattle.std.specs.Prelude.{IsTrue};
 
 use program_shell::PendingText;
 use std::alloc::{AllocError, Global};
@@ -39,7 +40,9 @@ impl History {
     }
 
     /// Reports the lines, the oldest first.
-    pub fn report(&self, errors: &mut PendingText) {
+    pub fn report(&self, errors: &mut PendingText)
+        ensures { IsTrue errors.new.is_whole → IsTrue errors.old.is_whole }
+    {
         for i in 0..self.lines.len() {
             let position = self.next.saturating_add(i).checked_rem(self.lines.len());
             if let Some(line) = self.lines.get(position.unwrap_or(0)) {

@@ -1,4 +1,4 @@
-//! What is written at once.
+//! Text that is written at once.
 
 use program_shell::{Failure, Host, PendingText, Stream};
 

@@ -1,4 +1,8 @@
 //! The jobs of a run.
+ghost use Rattle.std.specs.Prelude.{◌≡◌, [], codes, if◌then◌else◌};
+ghost use Rattle.machine.specs.Views.{job_view};
+ghost use Rattle.ten_program.specs.Jobs.{IsEndLine, IsIllegalText, IsInBrackets, IsSpotText, StandsSo, is_waiting, place_of, standing_in};
+ghost use Rattle.ten_program.specs.Reports.{AddsSome};
 
 use crate::terminal::Terminal;
 use concrete_machine::Machine;
@@ -20,24 +24,31 @@ pub struct RunningJob {
     pub steps: u64,
 }
 
-/// Whether a job waits.
-fn waits(standing: Standing) -> bool {
+/// What comes after the words on how a job ended: a comma, if it waits.
+fn comma_after(standing: Standing) -> &'static str
+    ensures { result.now ≡ if is_waiting standing then codes "," else [] }
+{
     match standing {
-        Standing::Goes(wait) => wait != Wait::None,
-        _ => false,
+        Standing::Goes(wait) if wait != Wait::None => ",",
+        _ => "",
     }
 }
 
 /// Reports an address of a job's program.
-fn report_spot(job: &TracedJob, place: Address, errors: &mut PendingText) {
+fn report_spot(job: &TracedJob, place: Address, errors: &mut PendingText)
+    ensures { AddsSome errors.old errors.new IsSpotText }
+{
     let alloc = errors.alloc;
     let spot = job.spot(place);
-    errors.say_made(format!(in alloc; " at {spot}"));
+    errors.say(" at ");
+    errors.say_made(format!(in alloc; "{spot}"));
 }
 
 impl RunningJob {
     /// The address where it stands: of its next instruction where it still runs or was stopped by CTRL-C, and else of its last.
-    fn place(&self, machine: &Machine, standing: Standing) -> Address {
+    fn place(&self, machine: &Machine, standing: Standing) -> Address
+        ensures { result ≡ place_of self.now.traced.last (job_view machine.now.world self.now.traced.number) standing }
+    {
         let last = self.traced.last;
         match standing {
             Standing::Goes(Wait::None) | Standing::Stopped(Stop::Typed) => {
@@ -48,24 +59,47 @@ impl RunningJob {
     }
 
     /// Reports how it stands, and at which address; where it was stopped at an illegal instruction, which that is.
-    fn report_standing(&self, machine: &Machine, standing: Standing, errors: &mut PendingText) {
+    fn report_standing(&self, machine: &Machine, standing: Standing, errors: &mut PendingText)
+        ensures { standing ≡ standing_in machine.now self.now
+            → AddsSome errors.old errors.new (StandsSo machine.now.world.requests self.now.traced.number standing) }
+    {
         errors.say_made(standing_text(errors.alloc, machine, self.traced.number));
-        if waits(standing) {
-            errors.say(",");
-        }
+        errors.say(comma_after(standing));
         let place = self.place(machine, standing);
         report_spot(&self.traced, place, errors);
-        if standing == Standing::Stopped(Stop::Fault(StopReason::IllegalInstruction)) {
-            let (alloc, found) = (
-                errors.alloc,
-                snapshot_of(machine, self.traced.number, place),
-            );
-            let illegal = IllegalText {
-                places: &self.traced.places,
-                word: found.executed,
-            };
-            errors.say_made(format!(in alloc; " ({illegal})"));
+        self.report_illegal(machine, standing, place, errors);
+    }
+
+    /// Reports which instruction it was, if the job was stopped at an illegal one.
+    fn report_illegal(
+        &self,
+        machine: &Machine,
+        standing: Standing,
+        place: Address,
+        errors: &mut PendingText,
+    )
+        ensures { AddsSome errors.old errors.new (IsIllegalText standing) }
+    {
+        match standing {
+            Standing::Stopped(Stop::Fault(StopReason::IllegalInstruction)) => {
+                self.report_instruction(machine, place, errors);
+            }
+            _ => {}
         }
+    }
+
+    /// Reports the instruction at an address, between round brackets.
+    fn report_instruction(&self, machine: &Machine, place: Address, errors: &mut PendingText)
+        ensures { AddsSome errors.old errors.new IsInBrackets }
+    {
+        let alloc = errors.alloc;
+        let illegal = IllegalText {
+            places: &self.traced.places,
+            word: snapshot_of(machine, self.traced.number, place).executed,
+        };
+        errors.say(" (");
+        errors.say_made(format!(in alloc; "{illegal}"));
+        errors.say(")");
     }
 
     /// Reports how it stands, in a line that begins with its number and its source's file: `job 1, FILE: HALT at
@@ -76,7 +110,10 @@ impl RunningJob {
         file: &str,
         standing: Standing,
         errors: &mut PendingText,
-    ) {
+    )
+        ensures { standing ≡ standing_in machine.now self.now
+            → AddsSome errors.old errors.new (IsEndLine machine.now self.now file.now standing) }
+    {
         errors.say_number("job ", u64::from(self.traced.number), ", ");
         errors.say(file);
         errors.say(": ");

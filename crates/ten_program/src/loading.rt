@@ -1,4 +1,8 @@
 //! Logs a job in for each program.
+ghost use Rattle.std.specs.Prelude.{◌≡◌, IfErr, IfOk};
+ghost use Rattle.machine.specs.Machine.{happens};
+ghost use Rattle.machine.specs.declared.event.Answer.TheVariants.{JobNumber};
+ghost use Rattle.machine.specs.declared.event.Event.TheVariants.{Login, Start};
 
 use crate::jobs::RunningJob;
 use crate::recording::Recording;
@@ -18,7 +22,11 @@ fn log_in(
     line: u8,
     image: &Image,
     recording: &mut Recording,
-) -> Result<u8, RefusedEvent> {
+) -> Result<u8, RefusedEvent>
+    ensures number { IfOk result (λ n. (happens machine.old (Login line image.entry)).answer ≡ JobNumber n) }
+    ensures started { IfOk result (λ n. machine.new ≡ (happens (happens machine.old (Login line image.entry)).state (Start n)).state) }
+    ensures refused { IfErr result (λ _. machine.new ≡ (happens machine.old (Login line image.entry)).state) }
+{
     match machine.event(&Event::Login(line, image)) {
         Answer::JobNumber(number) => {
             recording.add(RunEvent::Login(line, line.saturating_add(1)));
@@ -32,7 +40,12 @@ fn log_in(
 }
 
 /// The job of a program: it has this number, and ran no step yet.
-fn job_of(program: Program<'_>, number: u8, terminal: Terminal) -> RunningJob {
+fn job_of(program: Program<'_>, number: u8, terminal: Terminal) -> RunningJob
+    ensures number { result.traced.number ≡ number }
+    ensures places { result.traced.places ≡ program.entry.places }
+    ensures terminal { result.terminal ≡ terminal }
+    ensures steps { result.steps ≡ 0 }
+{
     let start = Address::try_new(program.image.start).unwrap_or(Address::new(0));
     RunningJob {
         traced: TracedJob {

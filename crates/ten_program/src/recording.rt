@@ -1,5 +1,7 @@
 //! A run that is recorded, to be obeyed again by `lockmon run`.
-ghost use Rattle.std.specs.Prelude.{◌≤◌};
+ghost use Rattle.std.specs.Prelude.{◌≡◌, ◌≤◌, [], ◌∷◌, Some, None, IfOk, if◌then◌else◌, true};
+ghost use Rattle.run_record.specs.Pieces.{rounds as rounds_of};
+ghost use Rattle.ten_program.specs.Events.{AddsEvents, IsScript};
 ghost use Rattle.run_record.specs.declared.pieces.TheConstants.{MOST_ROUNDS};
 
 use machine::Config;
@@ -21,7 +23,11 @@ pub struct Recording {
 
 impl Recording {
     /// A run in which nothing happened yet, and which is recorded or not.
-    pub fn new(alloc: Global, is_recorded: bool) -> Self {
+    pub fn new(alloc: Global, is_recorded: bool) -> Self
+        ensures events { result.events ≡ if is_recorded then Some [] else None }
+        ensures programs { result.programs.items ≡ [] }
+        ensures whole { result.is_whole ≡ true }
+    {
         let events = if is_recorded {
             Some(EventSequence::new(alloc))
         } else {
@@ -42,7 +48,9 @@ impl Recording {
     }
 
     /// Takes down what happened next, where that is recorded.
-    pub fn add(&mut self, event: RunEvent) {
+    pub fn add(&mut self, event: RunEvent)
+        ensures { AddsEvents self.old self.new (event ∷ []) }
+    {
         if let Some(events) = &mut self.events {
             self.is_whole &= events.add(event).is_ok();
         }
@@ -51,6 +59,7 @@ impl Recording {
     /// Takes down so many steps, each with its tick, where that is recorded.
     pub fn add_rounds(&mut self, rounds: u32)
         requires { rounds ≤ MOST_ROUNDS }
+        ensures { AddsEvents self.old self.new (rounds_of rounds) }
     {
         if let Some(events) = &mut self.events {
             if rounds > 0 {
@@ -60,7 +69,9 @@ impl Recording {
     }
 
     /// The run on a machine of this size as a script, where it is recorded.
-    pub fn script(&self, alloc: Global, config: Config) -> Result<Option<Vec<u8>>, AllocError> {
+    pub fn script(&self, alloc: Global, config: Config) -> Result<Option<Vec<u8>>, AllocError>
+        ensures { IfOk result (λ script. IsScript self.now config.blocks config.quantum script) }
+    {
         match &self.events {
             None => Ok(None),
             Some(_) if !self.is_whole => Err(AllocError),

@@ -1,6 +1,17 @@
 //! A run of programs: its jobs, and what is typed, reported and drawn.
 
-ghost use Rattle.std.specs.Prelude.{◌≤◌};
+ghost use Rattle.std.specs.Prelude.{◌≡◌, ◌≤◌, [], false, ◌&&◌, ◌||◌, IsTrue, length, map, not, take};
+ghost use Rattle.std.specs.List.{list_any};
+ghost use Rattle.lock_queue.specs.Jobs.{waits_for};
+ghost use Rattle.lock_queue.specs.Waits.{is_in_circle, jobs};
+ghost use Rattle.run_facts.specs.Ends.{status_of};
+ghost use Rattle.machine.specs.Alone.{text_in};
+ghost use Rattle.machine.specs.Machine.{happens};
+ghost use Rattle.machine.specs.declared.event.Event.TheVariants.{Take};
+ghost use Rattle.word36.specs.declared.sizes.TheConstants.{TAKEN_AT_ONCE};
+ghost use Rattle.ten_program.specs.Events.{TakesOutput};
+ghost use Rattle.ten_program.specs.Writing.{Writes};
+ghost use Rattle.ten_program.specs.Jobs.{sleeps, standing_in, waits_for_input, waits_with_limit};
 ghost use Rattle.run_record.specs.declared.pieces.TheConstants.{MOST_ROUNDS};
 
 use crate::jobs::RunningJob;
@@ -18,7 +29,7 @@ use monitor::{Answer, Event};
 use program_files::{ProgramFile, are_recordable, read_programs};
 use program_shell::PendingText;
 use run_events::{Fact, RoundsMade};
-use run_facts::{Cut, Ending, UNASKED_CUT, has_ended_well, status_of};
+use run_facts::{Cut, RunOutcome, UNASKED_CUT, has_ended_well, status_of};
 use run_notes::{has_circle, standing_of};
 use run_record::{MOST_ROUNDS, RunEvent};
 use std::alloc::{AllocError, Global};
@@ -29,7 +40,7 @@ use word36::{Address, Image, TAKEN_AT_ONCE};
 const CUT_TEXT: &str =
     "ten: a hundred million steps were made, and jobs go on; --steps N makes N steps\n";
 
-/// A run of programs: its jobs, and what is typed, reported and drawn. The machine stands beside it.
+/// A run of programs: its jobs, and what is typed, reported and drawn. The machine is beside it.
 #[derive(Drop)]
 pub struct Session {
     /// The jobs, by number from 1 on.
@@ -54,21 +65,34 @@ pub struct Session {
     pub recording: Recording,
 }
 
-/// Takes what a job has typed out; false where there is nothing.
-fn take_output(machine: &mut Machine, terminal: &mut Terminal, output: &mut PendingText) -> bool {
+/// Takes 64 characters at most of what a job has typed out; false if there is nothing.
+fn take_some(machine: &mut Machine, terminal: &mut Terminal, output: &mut PendingText) -> bool
+    ensures state { machine.new ≡ (happens machine.old (Take terminal.old.line TAKEN_AT_ONCE)).state }
+    ensures writes { Writes terminal.old terminal.new output.old output.new
+        (text_in (happens machine.old (Take terminal.old.line TAKEN_AT_ONCE)).answer) }
+    ensures none { result ≡ false → text_in (happens machine.old (Take terminal.old.line TAKEN_AT_ONCE)).answer ≡ [] }
+{
     // An event may hold an image, of which these have none: the prover wants its type to be named.
     let _image: Option<&Image> = None;
+    match machine.event(&Event::Take(terminal.line, TAKEN_AT_ONCE)) {
+        Answer::Text(taken) if !taken.as_slice().is_empty() => {
+            terminal.print(taken.as_slice(), output);
+            true
+        }
+        _ => false,
+    }
+}
+
+/// Takes what a job has typed out; false if there is nothing.
+fn take_output(machine: &mut Machine, terminal: &mut Terminal, output: &mut PendingText) -> bool
+    ensures { TakesOutput terminal.old terminal.new output.old output.new machine.old machine.new }
+{
     let mut has_some = false;
     for _ in 0..MOST_TAKES {
-        let Answer::Text(taken) = machine.event(&Event::Take(terminal.line, TAKEN_AT_ONCE)) else {
-            break;
-        };
-        let text = taken.as_slice();
-        if text.is_empty() {
+        if !take_some(machine, terminal, output) {
             break;
         }
         has_some = true;
-        terminal.print(text, output);
     }
     has_some
 }
@@ -346,7 +370,10 @@ impl Session {
 
     /// Whether the machine, of which no job is ready, can go on: a job sleeps, or waits for locks with a time
     /// limit, or waits for characters of which more may come.
-    fn can_go_on(&mut self, machine: &Machine) -> bool {
+    fn can_go_on(&mut self, machine: &Machine) -> bool
+        ensures { result ≡ ((list_any (sleeps machine.now) self.old.jobs.items || list_any (waits_with_limit machine.now) self.old.jobs.items)
+            || (list_any (waits_for_input machine.now) self.old.jobs.items && not self.old.typing.has_ended)) }
+    {
         let waits = Waits::of_all(machine, self.jobs.as_slice());
         waits.sleep || waits.limit || self.typing.goes_on(waits.input)
     }
@@ -358,15 +385,19 @@ impl Session {
         }
     }
 
-    /// Reports how each job stands, and gives the exit status. `cut` says whether the run made as many steps as it
+    /// Reports how each job ended, and gives the exit status. `cut` says whether the run made as many steps as it
     /// was to make; `names` are those of the files of the jobs' sources.
-    pub fn report_ends(&mut self, machine: &Machine, names: &[String], cut: Cut) -> u8 {
+    pub fn report_ends(&mut self, machine: &Machine, names: &[String], cut: Cut) -> u8
+        ensures status { IsTrue self.new.errors.is_whole → result
+            ≡ status_of (list_any (is_in_circle (waits_for machine.now.world.requests)) jobs) cut (map (standing_in machine.now) (take (length names.now) self.old.jobs.items)) }
+    {
         if !self.output.is_line_whole() {
             self.errors.end_line();
         }
         self.notes.report_table(self.ticks, &mut self.errors);
         let mut standings = Vec::new(self.errors.alloc);
-        for (job, name) in self.jobs.as_slice().iter().zip(names) {
+        for i in 0..self.jobs.len().min(names.len()) {
+            let (job, name) = (&self.jobs[i], &names[i]);
             let standing = standing_of(machine, job.traced.number);
             if !has_ended_well(standing) {
                 self.notes
@@ -377,7 +408,7 @@ impl Session {
                 self.errors.fail();
             }
         }
-        let ending = Ending {
+        let ending = RunOutcome {
             has_circle: has_circle(machine),
             cut,
         };

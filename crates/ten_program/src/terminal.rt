@@ -1,4 +1,8 @@
 //! What jobs type out.
+ghost use Rattle.std.specs.Prelude.{◌≡◌, ◌++◌, [], false};
+ghost use Rattle.program_shell.specs.Texts.{Adds};
+ghost use Rattle.ten_program.specs.Terminals.{flushed, held_behind, line_text, written_at};
+ghost use Rattle.ten_program.specs.Writing.{Writes};
 
 use arrayvec::ArrayVec;
 use program_shell::PendingText;
@@ -20,7 +24,11 @@ pub struct Terminal {
 
 impl Terminal {
     /// A terminal line where nothing was typed out. It is one of several, or the only one.
-    pub fn new(line: u8, is_numbered: bool) -> Self {
+    pub fn new(line: u8, is_numbered: bool) -> Self
+        ensures line { result.line ≡ line }
+        ensures numbered { result.is_numbered ≡ is_numbered }
+        ensures empty { result.partial.items ≡ [] }
+    {
         Terminal {
             line,
             is_numbered,
@@ -28,17 +36,28 @@ impl Terminal {
         }
     }
 
+    /// Adds a character to the line, and the line to the output if it is whole or long.
+    fn add_character(&mut self, byte: u8, output: &mut PendingText)
+        ensures written { Adds output.old output.new (written_at self.old.is_numbered self.old.line self.old.partial.items byte) }
+        ensures held { self.new.partial.items ≡ held_behind self.old.is_numbered self.old.partial.items byte }
+        ensures line { self.new.line ≡ self.old.line }
+        ensures numbered { self.new.is_numbered ≡ self.old.is_numbered }
+    {
+        let is_whole = self.is_numbered && byte == b'\n';
+        if !is_whole {
+            let _ = self.partial.try_push(byte);
+        }
+        if is_whole || self.partial.is_full() {
+            self.end_line(output);
+        }
+    }
+
     /// Adds characters to the output as they come or, with several terminals, line by line.
-    pub fn print(&mut self, text: &[Char7], output: &mut PendingText) {
+    pub fn print(&mut self, text: &[Char7], output: &mut PendingText)
+        ensures { Writes self.old self.new output.old output.new text.now }
+    {
         for character in text {
-            let byte = character.number();
-            let is_whole = self.is_numbered && byte == b'\n';
-            if !is_whole {
-                let _ = self.partial.try_push(byte);
-            }
-            if is_whole || self.partial.is_full() {
-                self.end_line(output);
-            }
+            self.add_character(character.number(), output);
         }
         if !self.is_numbered {
             self.end_line(output);
@@ -46,14 +65,24 @@ impl Terminal {
     }
 
     /// Adds what there is of a line that is not whole, and ends it.
-    pub fn flush(&mut self, output: &mut PendingText) {
+    pub fn flush(&mut self, output: &mut PendingText)
+        ensures written { Adds output.old output.new (flushed self.old.is_numbered self.old.line self.old.partial.items) }
+        ensures held { self.new.partial.items ≡ [] }
+        ensures line { self.new.line ≡ self.old.line }
+        ensures numbered { self.new.is_numbered ≡ self.old.is_numbered }
+    {
         if !self.partial.is_empty() {
             self.end_line(output);
         }
     }
 
     /// Adds the line, with its number and an end where there are several terminals.
-    fn end_line(&mut self, output: &mut PendingText) {
+    fn end_line(&mut self, output: &mut PendingText)
+        ensures written { Adds output.old output.new (line_text self.old.is_numbered self.old.line self.old.partial.items) }
+        ensures held { self.new.partial.items ≡ [] }
+        ensures line { self.new.line ≡ self.old.line }
+        ensures numbered { self.new.is_numbered ≡ self.old.is_numbered }
+    {
         if self.is_numbered {
             output.say_number("", u64::from(self.line), ": ");
             output.add(self.partial.as_slice());

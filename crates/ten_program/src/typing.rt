@@ -1,7 +1,8 @@
 //! What is typed at the terminals of a run.
-ghost use Rattle.std.specs.Prelude.{◌≡◌, length, min};
+ghost use Rattle.std.specs.Prelude.{◌≡◌, ◌&&◌, false, length, min, not};
 ghost use Rattle.word36.specs.declared.sizes.TheConstants.{JOBS};
 ghost use Rattle.run_facts.specs.Typing.{line_for, text_for};
+ghost use Rattle.ten_program.specs.Events.{IsFull, typed_at};
 
 use crate::jobs::RunningJob;
 use crate::recording::Recording;
@@ -41,7 +42,10 @@ pub struct Typing {
 }
 
 /// Types a byte at a terminal line; false where there is no room for it. A byte that is no character is left out.
-fn type_byte(machine: &mut Machine, line: u8, byte: u8, recording: &mut Recording) -> bool {
+fn type_byte(machine: &mut Machine, line: u8, byte: u8, recording: &mut Recording) -> bool
+    ensures state { machine.new ≡ typed_at line byte machine.old }
+    ensures full { result ≡ false → IsFull line byte machine.old }
+{
     // An event may hold an image, of which this one has none: the prover wants its type to be named.
     let _image: Option<&Image> = None;
     let Some(character) = Char7::try_new(byte) else {
@@ -122,7 +126,9 @@ impl Typing {
 
     /// Whether more characters come, where no job is ready. `is_awaited` where some job waits for characters. The rest
     /// of a line that found no room elsewhere is lost.
-    pub fn goes_on(&mut self, is_awaited: bool) -> bool {
+    pub fn goes_on(&mut self, is_awaited: bool) -> bool
+        ensures { result ≡ (is_awaited && not self.old.has_ended) }
+    {
         self.typed = self.text.len();
         self.is_awaited = is_awaited;
         is_awaited && !self.has_ended

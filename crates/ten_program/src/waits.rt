@@ -1,4 +1,7 @@
 //! What jobs wait for.
+ghost use Rattle.std.specs.Prelude.{◌≡◌, false};
+ghost use Rattle.std.specs.List.{list_any};
+ghost use Rattle.ten_program.specs.Jobs.{sleeps, waits_for_input, waits_of, waits_with_limit};
 
 use crate::jobs::RunningJob;
 use concrete_machine::Machine;
@@ -25,7 +28,9 @@ impl Waits {
     };
 
     /// What a job waits for.
-    pub fn of(job: &JobView) -> Self {
+    pub fn of(job: &JobView) -> Self
+        ensures { result ≡ waits_of job.now }
+    {
         let goes = job.stop.is_none();
         let mut waits = Waits::NONE;
         match job.wait {
@@ -38,7 +43,11 @@ impl Waits {
     }
 
     /// What some jobs wait for.
-    pub fn of_all(machine: &Machine, jobs: &[RunningJob]) -> Self {
+    pub fn of_all(machine: &Machine, jobs: &[RunningJob]) -> Self
+        ensures input { result.input ≡ list_any (waits_for_input machine.now) jobs.now }
+        ensures limit { result.limit ≡ list_any (waits_with_limit machine.now) jobs.now }
+        ensures sleep { result.sleep ≡ list_any (sleeps machine.now) jobs.now }
+    {
         let mut all = Waits::NONE;
         for job in jobs {
             if let Some(view) = machine.job(job.traced.number) {

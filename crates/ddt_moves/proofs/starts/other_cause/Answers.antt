@@ -7,12 +7,12 @@ use Rattle.run_events.specs.declared.facts.Fact.{Fact}
 use Rattle.ddt_moves.specs.OtherEnds.{counted_cause, ends_for}
 use Rattle.ddt_moves.specs.StopLists.{or_slot}
 use Rattle.ddt_moves.specs.Visits.{first_due_at_start, is_due_at_start, slot_if}
-use Rattle.ddt_moves.specs.declared.run_stops.Cause.{Cause}
+use Rattle.ddt_moves.specs.declared.run_stops.StopCause.{StopCause}
 use Rattle.ddt_moves.specs.declared.stop_lists.StopList.{StopList}
 use Rattle.ddt_moves.specs.declared.visits.Counter.{Counter}
 use Rattle.ddt_moves.proofs.starts.other_cause.Goals as goal
 
-counted_ends : (list : StopList) (s other : S) (found : Option Cause) → s ≡ other
+counted_ends : (list : StopList) (s other : S) (found : Option StopCause) → s ≡ other
     → IfSome found (λ cause. (facts : List Fact) → ends_for list s facts (Some cause) ≡ true)
     → ends_for list other [] found ≡ true
 counted_ends list s other None same counted = refl
@@ -27,7 +27,7 @@ due_first first last cs i c within is due =
     ∙ ap (λ (x : Counter). first_due_at_start first last (x ∷ drop (i + 1) cs)) (sym is)
     ∙ ap (λ (b : Bool). or_slot (slot_if b c.slot) (first_due_at_start first last (drop (i + 1) cs))) due
 
-counted_is : (o : Option ℕ) (slot : ℕ) (list : StopList) (s other : S) (cause : Option Cause) → o ≡ Some slot
+counted_is : (o : Option ℕ) (slot : ℕ) (list : StopList) (s other : S) (cause : Option StopCause) → o ≡ Some slot
     → cause ≡ counted_cause list s slot → s ≡ other → IfSome o (λ n. cause ≡ counted_cause list other n)
 counted_is o slot list s other cause there is same =
     subst (λ (x : Option ℕ). IfSome x (λ n. cause ≡ counted_cause list other n)) (sym there)
