@@ -129,6 +129,9 @@ LOOKED_AT = Example("ddt", [str(TOP / "examples/counter.mac")], pairs(".= => 000
 """A line of the debugger, and the one that ends it."""
 NAME = [str(TOP / "tests/ten/one.mac")], b"ADA\n", b"NAME? HELLO ADA\n"
 """A program that asks for a name: its source, the input, and what it types out."""
+TYPES = str(TOP / "tests/orders_program/types.mac")
+REPORT = b"1 job, 1 state, all looked at\nNO CIRCLE\n1 END\nEND 1, 0 calls\njob 1, %b: EXIT at SAY+1\nTEXT 0 A\\r\\nB\n" % TYPES.encode()
+"""A program that types a text, and the report on its orders."""
 
 
 def input_of(text, fails):
@@ -219,6 +222,13 @@ def failing_terminal(program):
     yield "ten: room for all", (program, words, text, False, len(typed)), (typed, None, 0)
 
 
+def failed_report(program):
+    """`orders` whose output fails: the report is there as far as it was taken."""
+    for room in range(len(REPORT)):
+        yield f"orders: no write behind byte {room}", (program, [TYPES], b"", False, room), (REPORT[:room], b"orders: write\n", FAILED)
+    yield "orders: room for all", (program, [TYPES], b"", False, len(REPORT)), (REPORT, b"", 0)
+
+
 def read_no_further(program):
     """Behind QUIT and behind a line that is refused nothing is read, so no read fails."""
     yield "queue: no read behind QUIT", (program, ["queue"], b"FREE 1\nQUIT\nFREE 2\n", True), (b"OK\n", b"", 0)
@@ -241,7 +251,7 @@ def answers_in_turn(name, program):
             clock.cancel()
 
 
-CASES = {"lockmon": (failed_read, failed_write, cut_script, read_no_further), "ten": (failing_terminal,), "ddt": ()}
+CASES = {"lockmon": (failed_read, failed_write, cut_script, read_no_further), "ten": (failing_terminal,), "orders": (failed_report,), "ddt": ()}
 
 
 def fault(case):

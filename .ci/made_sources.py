@@ -1,8 +1,10 @@
-"""Makes sources in MACRO-10 by chance: labels, assignments, literals, macros with arguments, conditions and repetitions, one
-inside another. The same chance makes the same source."""
+"""Makes sources in MACRO-10 by chance: labels, assignments, literals, macros with arguments, defaults and created names, conditions,
+repetitions and rounds of IRP that STOPI ends, one inside another. The same chance makes the same source."""
 
 SYMBOLS = ("A", "B", "C")
 DUMMIES = ("X", "Y", "Z")
+CREATED = "%L"
+"""A dummy that a macro has last, if it has one that stands for a new name."""
 CONDITIONS = ("IFE", "IFN", "IFG", "IFL", "IFGE", "IFLE")
 TESTS = ("IFDEF", "IFNDEF")
 OPERATIONS = ("MOVE", "MOVEM", "ADDI", "CAIE", "JRST", "SKIPN", "HRLZI", "TRNE", "ASH", "SETZM")
@@ -11,10 +13,10 @@ DEEPEST = 3
 
 
 class Maker:
-    """Makes one source. `macros` has the number of dummies of each macro that is defined by now, and `labels` the labels."""
+    """Makes one source. `macros` has the dummies of each macro that is defined by now, and `labels` the labels."""
 
     def __init__(self, chance):
-        self.chance, self.macros, self.labels = chance, {}, []
+        self.chance, self.macros, self.labels, self.names = chance, {}, [], 0
 
     def one(self, *choices):
         """Gives one of these, some of which are calls that make a text."""
@@ -63,16 +65,28 @@ class Maker:
         return f"REPEAT {self.one('0', '1', '2', '3', *dummies)},<{self.body(depth + 1, dummies)}>"
 
     def rounds(self, depth, dummies):
-        """Gives an IRP or an IRPC, where there is a dummy."""
-        kind = self.one("IRP", "IRPC")
-        return f"{kind} {self.chance.choice(dummies)},<{self.body(depth + 1, dummies)}>" if dummies else self.data(dummies)
+        """Gives an IRP or an IRPC, where there is a dummy; in some of them STOPI ends the rounds."""
+        if not dummies:
+            return self.data(dummies)
+        kind, over = self.one("IRP", "IRPC"), self.chance.choice(dummies)
+        stop = self.one("", "", "\n\tSTOPI\n", f"\nIFIDN <{over}>,<{self.number()}>,<STOPI>\n", f"\nIFE {self.value(dummies)},<\tSTOPI\n>")
+        before, behind = (stop, "") if self.chance.random() < 0.3 else ("", stop)
+        name = self.one(over, over, f"({over})")
+        return f"{kind} {name},<{before}{self.body(depth + 1, dummies)}{behind}>"
 
     def call(self, dummies):
         if not self.macros:
             return self.data(dummies)
-        name, count = self.chance.choice(sorted(self.macros.items()))
-        arguments = ",".join(self.one(self.value(dummies), f"<{self.number()},{self.number()}>", f"\\{self.number()}", "") for _ in range(count))
-        return f"\t{name} {self.one(arguments, f'({arguments})')}" if count else f"\t{name}"
+        name, own = self.chance.choice(sorted(self.macros.items()))
+        arguments = ",".join(self.argument(dummies) for it in own if it != CREATED)
+        if CREATED in own and self.chance.random() < 0.1:
+            self.names += 1
+            arguments += f",N{self.names}"
+        return f"\t{name} {self.one(arguments, f'({arguments})')}" if own else f"\t{name}"
+
+    def argument(self, dummies):
+        numbers = [self.number() for _ in range(self.chance.randint(2, 4))]
+        return self.one(self.value(dummies), f"<{','.join(numbers)}>", f"<{', '.join(numbers)}>", f"<<{numbers[0]}>,{numbers[1]}>", f"\\{numbers[0]}", "<>", "", "")
 
     def statement(self, depth, dummies):
         kinds = [self.data, self.data, self.instruction, self.instruction, self.assignment, self.call]
@@ -87,9 +101,13 @@ class Maker:
 
     def definition(self):
         name, dummies = f"M{len(self.macros)}", DUMMIES[: self.chance.randint(0, 3)]
+        written = [it + self.one("", "", f"<{self.number()}>", f" <{self.number()},{self.number()}>") for it in dummies]
+        if self.chance.random() < 0.3:
+            dummies, written = (*dummies, CREATED), [*written, CREATED]
         body = self.body(1, dummies)
-        self.macros[name] = len(dummies)
-        return f"DEFINE {name}{self.one('', ' ')}({','.join(dummies)})<{body}>"
+        label = f"\n{CREATED}:" if CREATED in dummies else ""
+        self.macros[name] = dummies
+        return f"DEFINE {name}{self.one('', ' ')}({','.join(written)})<{label}{body}>"
 
     def label(self):
         self.labels.append(f"L{len(self.labels)}")

@@ -108,6 +108,11 @@ def cases(folder):
     yield Case("macro", ["--flies"], b"", 2)
     yield Case("ten", [str(TOP / "examples" / "squares.mac")], b"")
     yield Case("ten", [str(TOP / "examples" / "doubled.mac")], b"", 1)
+    lossy, first, second = (str(TOP / "examples" / it) for it in ("lossy.mac", "a_then_b.mac", "b_then_a.mac"))
+    yield Case("orders", [lossy, lossy], b"", 7)
+    yield Case("orders", ["--record", f"{folder}/order.run", first, second], b"", 4)
+    yield Case("orders", [str(TOP / "examples" / "doubled.mac")], b"", 1)
+    yield Case("orders", ["--flies"], b"", 2)
     circle = (TOP / "examples" / "two_in_a_circle.run").read_bytes()
     yield Case("lockview", ["--explain", "--run"], circle)
 

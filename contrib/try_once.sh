@@ -7,7 +7,7 @@ hand_over() { # WORD..: fills words and files
     local word value
     for word; do
         case $name:$word in
-            ten:--picture | ten:--picture=* | ten:--record | ten:--record=* | macro:--list | macro:--list=* | macro:--cross | macro:--cross=*)
+            ten:--picture | ten:--picture=* | ten:--record | ten:--record=* | orders:--record | orders:--record=* | macro:--list | macro:--list=* | macro:--cross | macro:--cross=*)
                 say "${word%%=*} needs the program that is proved and built: a quick run keeps no file that it writes; leave out --quick"
                 exit 2 ;;
         esac

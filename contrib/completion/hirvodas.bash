@@ -12,4 +12,4 @@ _hirvodas() {
             [ "${COMP_WORDS[0]##*/}:$COMP_CWORD" != image:1 ] || COMPREPLY=($(compgen -W "words source save list help" -- "$word")) ;;
     esac
 }
-complete -o default -F _hirvodas lockmon ten ddt lockview lockcheck image macro
+complete -o default -F _hirvodas lockmon ten ddt lockview lockcheck orders image macro

@@ -1,5 +1,12 @@
 //! Commands that change the machine by hand: words, where jobs start, and what is typed in and out.
 
+ghost use Rattle.std.specs.Prelude.{◌≡◌, ◌≤◌, ◌<◌, ◌+◌, ◌^◌, IsTrue, false, true};
+ghost use Rattle.ddt_timeline.specs.Histories.{done, things_of};
+ghost use Rattle.ddt_timeline.specs.Views.{history};
+ghost use Rattle.program_shell.specs.Texts.{Adds};
+ghost use Rattle.ddt.specs.Showing.{taken_words};
+ghost use Rattle.ddt.specs.Obeying.{after_change, after_deposit, has_job, takes_word};
+
 use crate::examining::{open, put_mask};
 use crate::runs::run_from_start;
 use crate::session::Session;
@@ -12,7 +19,12 @@ use std::alloc::AllocError;
 use word36::{Address, Word};
 
 /// A value: deposits it at the open address, and closes that.
-pub fn deposit(session: &mut Session, timeline: &mut Timeline, word: Word) {
+pub fn deposit(session: &mut Session, timeline: &mut Timeline, word: Word)
+    ensures happens { IsTrue session.new.answer.is_whole → history timeline.new ≡ after_deposit session.old word (history timeline.old) }
+    ensures refused { takes_word session.old ≡ false → timeline.new ≡ timeline.old }
+    ensures mask { session.old.is_open ≡ true → session.old.is_mask ≡ true → session.new.mask ≡ word }
+    ensures stays { session.new.open ≡ session.old.open }
+{
     if !session.is_open {
         return refuse(&mut session.answer, CommandError::NotOpen);
     }
@@ -34,7 +46,10 @@ pub fn deposit(session: &mut Session, timeline: &mut Timeline, word: Word) {
 }
 
 /// `a/ value`: opens an address of the open job, whose word is shown, and deposits the value there.
-pub fn change(session: &mut Session, timeline: &mut Timeline, address: u32, word: Word) {
+pub fn change(session: &mut Session, timeline: &mut Timeline, address: u32, word: Word)
+    ensures { IsTrue session.new.answer.is_whole
+        → history timeline.new ≡ after_change session.old address word (history timeline.old) }
+{
     session.is_open = false;
     open(session, timeline, address);
     if session.is_open {
@@ -43,14 +58,19 @@ pub fn change(session: &mut Session, timeline: &mut Timeline, address: u32, word
 }
 
 /// Makes an entry happen whose answer is not shown.
-pub fn make(answer: &mut PendingText, timeline: &mut Timeline, entry: Entry) {
+pub fn make(answer: &mut PendingText, timeline: &mut Timeline, entry: Entry)
+    ensures happens { IsTrue answer.new.is_whole → history timeline.new ≡ done (history timeline.old) (things_of entry) }
+    ensures quiet { IsTrue answer.new.is_whole → answer.new ≡ answer.old }
+{
     if timeline.make(entry).is_err() {
         answer.fail();
     }
 }
 
 /// `a$G`: starts the open job at an address, and runs.
-pub fn start_at(session: &mut Session, timeline: &mut Timeline, address: u32) {
+pub fn start_at(session: &mut Session, timeline: &mut Timeline, address: u32)
+    ensures { 2 ^ 18 ≤ address → timeline.new ≡ timeline.old }
+{
     let Some(address) = Address::try_new(address) else {
         return refuse(&mut session.answer, CommandError::NoWord);
     };
@@ -87,7 +107,9 @@ fn type_spelled(
     timeline: &mut Timeline,
     line: u8,
     text: &[u8],
-) -> Result<Option<CommandError>, AllocError> {
+) -> Result<Option<CommandError>, AllocError>
+    ensures { has_job (history timeline.old) (line + 1) ≡ false → line < 255 → timeline.new ≡ timeline.old }
+{
     // Job 1 is at line 0, job 2 at line 1, and so on.
     if timeline.machine().job(line.saturating_add(1)).is_none() {
         return Ok(Some(CommandError::NoJobAtLine));
@@ -104,7 +126,9 @@ fn type_spelled(
 }
 
 /// `.TYPE line text`: types a text and RETURN at the terminal line of a job.
-pub fn type_at(answer: &mut PendingText, timeline: &mut Timeline, line: u8, text: &[u8]) {
+pub fn type_at(answer: &mut PendingText, timeline: &mut Timeline, line: u8, text: &[u8])
+    ensures { has_job (history timeline.old) (line + 1) ≡ false → line < 255 → timeline.new ≡ timeline.old }
+{
     match type_spelled(timeline, line, text) {
         Ok(None) => {}
         Ok(Some(refusal)) => refuse(answer, refusal),
@@ -113,7 +137,9 @@ pub fn type_at(answer: &mut PendingText, timeline: &mut Timeline, line: u8, text
 }
 
 /// Adds what was taken from a terminal line, which is named where there are several.
-fn say_taken(answer: &mut PendingText, line: u8, is_named: bool, bytes: &[u8]) {
+fn say_taken(answer: &mut PendingText, line: u8, is_named: bool, bytes: &[u8])
+    ensures { Adds answer.old answer.new (taken_words line is_named bytes.now) }
+{
     let Some(last) = bytes.last() else {
         return;
     };

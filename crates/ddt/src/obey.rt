@@ -1,5 +1,8 @@
 //! Lines that are obeyed.
 
+ghost use Rattle.std.specs.Prelude.{◌≡◌, true};
+ghost use Rattle.ddt.specs.Obeying.{Obeys, only_looks};
+
 use crate::changes::{change, deposit, make, start_at, take, type_at};
 use crate::examining::{change_mask, evaluate, examine, open, open_as, open_mask, show_last};
 use crate::going_back::{back, back_to, back_to_write, forward};
@@ -41,7 +44,9 @@ pub fn obey_line<'a>(
     session: &mut Session,
     timeline: &mut Timeline,
     line: &'a [u8],
-) -> HostAction<'a> {
+) -> HostAction<'a>
+    ensures { Obeys session.old line.now (timeline.new ≡ timeline.old) }
+{
     let read = read_line(line, &session.scope());
     match read {
         Ok(command) => {
@@ -105,7 +110,9 @@ fn file_to_obey<'a>(session: &mut Session, file: &'a [u8]) -> Option<&'a str> {
 }
 
 /// Obeys a command that goes back, or forward again; any other goes to `obey_move`.
-fn obey(session: &mut Session, timeline: &mut Timeline, command: &Command<'_>) {
+fn obey(session: &mut Session, timeline: &mut Timeline, command: &Command<'_>)
+    ensures { only_looks command.now ≡ true → timeline.new ≡ timeline.old }
+{
     match *command {
         Command::Back(steps) => back(session, timeline, steps),
         Command::BackTo(address) => back_to(session, timeline, address),
@@ -134,7 +141,9 @@ fn makes_happen(command: &Command<'_>) -> bool {
 
 /// Obeys a command that makes something happen to the machine; any other goes to `obey_look`. Lines of the input that are typed
 /// ahead of where the machine stands are forgotten with all that is ahead.
-fn obey_move(session: &mut Session, timeline: &mut Timeline, command: &Command<'_>) {
+fn obey_move(session: &mut Session, timeline: &mut Timeline, command: &Command<'_>)
+    ensures { only_looks command.now ≡ true → timeline.new ≡ timeline.old }
+{
     if makes_happen(command) {
         session.input.forget(timeline.happened());
     }

@@ -11,11 +11,8 @@ use crate::session::Session;
 use crate::texts;
 use ddt_moves::InputLines;
 use ddt_timeline::Timeline;
-use program_files::{ProgramFile, read_files};
-use program_shell::{
-    Answers, DONE, FAILED, Failure, Host, PendingText, REFUSED, Refusal, Stream, USAGE,
-    refusal_text,
-};
+use program_files::{ProgramFile, answer_refusal, read_files};
+use program_shell::{Answers, FAILED, Failure, Host, PendingText, REFUSED, Stream, USAGE};
 use script_io::ByteOut;
 use std::alloc::{AllocError, Global};
 use std::io::ErrorKind;
@@ -52,22 +49,6 @@ fn read_input<H: Host>(host: &H, file: Option<&str>, session: &mut Session) -> b
             true
         }
         None => false,
-    }
-}
-
-/// Reports why the arguments were refused, or answers with the help or the version that they ask for; gives the exit status.
-fn report_refusal<H: Host>(alloc: Global, refusal: Refusal, host: &mut H) -> Result<u8, Failure> {
-    let Ok(said) = refusal_text(alloc, refusal) else {
-        return Err(Failure::Memory);
-    };
-    let (stream, status) = if said.is_asked_for {
-        (Stream::Output, DONE)
-    } else {
-        (Stream::Errors, USAGE)
-    };
-    match host.write(stream, said.text.as_str().as_bytes()) {
-        Ok(()) => Ok(status),
-        Err(_) => Err(Failure::Write),
     }
 }
 
@@ -139,7 +120,7 @@ fn run_session<H: Host>(
 pub fn ddt<H: Host>(alloc: Global, arguments: &[String], host: &mut H) -> u8 {
     let served = match read_arguments(alloc, arguments) {
         Ok(arguments) => run_session(alloc, &arguments, host),
-        Err(refusal) => report_refusal(alloc, refusal, host),
+        Err(refusal) => answer_refusal(alloc, refusal, host),
     };
     match served {
         Ok(status) => status,

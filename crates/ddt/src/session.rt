@@ -1,5 +1,16 @@
 //! A session of the debugger.
 
+ghost use Rattle.std.specs.Prelude.{◌≡◌, ◌++◌, ◌∷◌, [], IfSome, IsTrue, None, false, is_some, string_bytes};
+ghost use Rattle.machine.specs.Views.{job_view, word_in};
+ghost use Rattle.ddt_commands.specs.declared.commands.OutputMode.TheVariants.{Symbolic};
+ghost use Rattle.ddt_moves.specs.Turns.{ended_in};
+ghost use Rattle.ddt_show.specs.Jobs.{IsJobLine};
+ghost use Rattle.ddt_timeline.specs.Histories.{machine_of};
+ghost use Rattle.ddt_timeline.specs.Views.{history};
+ghost use Rattle.program_shell.specs.Texts.{Adds};
+ghost use Rattle.ddt.specs.Obeying.{IsScope, job_of, job_there, open_word, shown_in, shown_there};
+ghost use Rattle.ddt.specs.Showing.{AddsSome, address_by, line_in, next_here};
+
 use crate::file_lines::FileLines;
 use crate::recording::ScriptHead;
 use ddt_commands::{OutputMode, Scope, Symbol};
@@ -105,7 +116,12 @@ fn no_places(alloc: Global) -> Places {
 
 impl Session {
     /// A session without jobs, whose first will be open.
-    pub fn new(alloc: Global) -> Self {
+    pub fn new(alloc: Global) -> Self
+        ensures jobs { (result.jobs.items ≡ []) × (result.open ≡ 1) }
+        ensures place { (result.here ≡ 0) × (result.last ≡ 0) × (result.is_open ≡ false) × (result.is_mask ≡ false) }
+        ensures mode { (result.mode ≡ Symbolic) × (result.is_absolute ≡ false) }
+        ensures answer { (result.answer.bytes.items ≡ []) × IsTrue result.answer.is_whole }
+    {
         Session {
             alloc,
             jobs: Vec::new(alloc),
@@ -141,19 +157,25 @@ impl Session {
     }
 
     /// The job of a number.
-    fn job(&self, number: u8) -> Option<&SessionJob> {
+    fn job(&self, number: u8) -> Option<&SessionJob>
+        ensures { job_there result ≡ job_of self.now number }
+    {
         self.jobs
             .as_slice()
             .get(usize::from(number).saturating_sub(1))
     }
 
     /// The job that is open.
-    pub fn open_job(&self) -> Option<&SessionJob> {
+    pub fn open_job(&self) -> Option<&SessionJob>
+        ensures { job_there result ≡ job_of self.now self.now.open }
+    {
         self.job(self.open)
     }
 
     /// The job by whose labels addresses are shown: of a number, or that without labels.
-    pub fn shown(&self, number: u8) -> Option<&ShownJob> {
+    pub fn shown(&self, number: u8) -> Option<&ShownJob>
+        ensures { shown_there result ≡ shown_in self.now number }
+    {
         match self.job(number) {
             Some(job) if !self.is_absolute => Some(&job.shown),
             Some(_) => Some(&self.bare),
@@ -162,7 +184,9 @@ impl Session {
     }
 
     /// What the symbols of a line stand for, by the open job.
-    pub fn scope(&self) -> Scope<'_> {
+    pub fn scope(&self) -> Scope<'_>
+        ensures { IsScope self.now result }
+    {
         let symbols = match self.open_job() {
             Some(job) => job.symbols.as_slice(),
             None => &[],
@@ -175,7 +199,10 @@ impl Session {
     }
 
     /// Adds an address of a job: `LOOP+3`.
-    pub fn say_address(&mut self, job: u8, address: u32) {
+    pub fn say_address(&mut self, job: u8, address: u32)
+        ensures says { Adds self.old.answer self.new.answer (address_by address (shown_in self.old job)) }
+        ensures same { self.new ≡ record self.old { answer = self.new.answer } }
+    {
         let text = match self.shown(job) {
             Some(job) => address_text(self.alloc, job, address),
             None => format!(in self.alloc; "{address:o}"),
@@ -183,22 +210,43 @@ impl Session {
         self.answer.say_made(text);
     }
 
+    /// Adds an address of the open job and the word there, without a line end.
+    fn say_word(&mut self, address: u32, word: Word)
+        ensures says { IfSome (line_in self.old address word) (λ line. Adds self.old.answer self.new.answer line) }
+        ensures same { self.new ≡ record self.old { answer = self.new.answer } }
+    {
+        match self.shown(self.open) {
+            Some(job) => {
+                let line = address_line(self.alloc, job, address, word, self.mode);
+                self.answer.say_made(line);
+            }
+            None => {}
+        }
+    }
+
     /// Adds the line on an address of the open job and the word there; false where it has no word there.
-    pub fn show_address(&mut self, timeline: &Timeline, address: u32) -> bool {
+    pub fn show_address(&mut self, timeline: &Timeline, address: u32) -> bool
+        ensures there { result ≡ is_some (open_word self.old (history timeline.now) address) }
+        ensures last { IfSome (open_word self.old (history timeline.now) address) (λ w. self.new.last ≡ w) }
+        ensures says { IfSome (open_word self.old (history timeline.now) address)
+            (λ w. IfSome (line_in self.old address w) (λ line. Adds self.old.answer self.new.answer (line ++ (10 ∷ [])))) }
+        ensures same { self.new ≡ record self.old { answer = self.new.answer; last = self.new.last } }
+        ensures none { result ≡ false → self.new ≡ self.old }
+    {
         let Some(word) = timeline.machine().peek(self.open, address) else {
             return false;
         };
-        if let Some(job) = self.shown(self.open) {
-            let line = address_line(self.alloc, job, address, word, self.mode);
-            self.answer.say_made(line);
-        }
+        self.say_word(address, word);
         self.answer.end_line();
         self.last = word;
         true
     }
 
     /// Adds the line on what the open job executes next, or on how it stands where it is stopped or waits.
-    pub fn show_next(&mut self, timeline: &Timeline) {
+    pub fn show_next(&mut self, timeline: &Timeline)
+        ensures here { self.new.here ≡ next_here self.old.here (job_view (machine_of (history timeline.now)).world self.old.open) }
+        ensures same { self.new ≡ record self.old { here = self.new.here; last = self.new.last; answer = self.new.answer } }
+    {
         let mut is_shown = false;
         if let Some(view) = timeline.machine().job(self.open) {
             self.here = view.pc.number();
@@ -211,7 +259,12 @@ impl Session {
     }
 
     /// Adds the line on how a job stands, with the address where it ended, or its PC.
-    pub fn show_job(&mut self, timeline: &Timeline, number: u8) {
+    pub fn show_job(&mut self, timeline: &Timeline, number: u8)
+        ensures says { IfSome (job_of self.old number) (λ job. AddsSome self.old.answer self.new.answer
+            (IsJobLine (machine_of (history timeline.now)).world.requests job.shown.places job.shown.number (string_bytes job.file)
+            (ended_in (history timeline.now) number) (job_view (machine_of (history timeline.now)).world job.shown.number))) }
+        ensures same { self.new ≡ record self.old { answer = self.new.answer } }
+    {
         let Ok(ended_at) = ended_at(timeline, number) else {
             return self.answer.fail();
         };

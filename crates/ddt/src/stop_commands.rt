@@ -1,5 +1,10 @@
 //! Commands that set breakpoints and the other stops.
 
+ghost use Rattle.std.specs.Prelude.{◌≡◌, ◌-◌, None, codes, if◌then◌else◌, is_some, not, slice_set};
+ghost use Rattle.ddt_timeline.specs.Views.{history};
+ghost use Rattle.program_shell.specs.Texts.{Adds};
+ghost use Rattle.ddt.specs.Obeying.{breakpoints_after, condition_has_word, open_word, words_after};
+
 use crate::session::Session;
 use ddt_breakpoints::{BREAKPOINTS, Condition};
 use ddt_commands::{CommandError, NewBreakpoint};
@@ -11,19 +16,27 @@ use queue_script::CallRoom;
 use script_io::Parts;
 use word36::Address;
 
+/// Whether the open job has a word at an address.
+fn is_there(session: &Session, timeline: &Timeline, address: u32) -> bool
+    ensures { result ≡ is_some (open_word session.now (history timeline.now) address) }
+{
+    timeline.machine().peek(session.open, address).is_some()
+}
+
 /// Whether a condition, if there is one, is on a word that the open job has.
-fn has_word(session: &Session, timeline: &Timeline, condition: Option<Condition>) -> bool {
+fn has_word(session: &Session, timeline: &Timeline, condition: Option<Condition>) -> bool
+    ensures { result ≡ condition_has_word session.now (history timeline.now) condition }
+{
     match condition {
-        Some(condition) => {
-            let word = timeline.machine().peek(session.open, condition.address);
-            word.is_some()
-        }
+        Some(condition) => is_there(session, timeline, condition.address),
         None => true,
     }
 }
 
 /// `a$B` and `a$nB`: sets a breakpoint of the open job.
-pub fn set(session: &mut Session, timeline: &Timeline, wanted: &NewBreakpoint) {
+pub fn set(session: &mut Session, timeline: &Timeline, wanted: &NewBreakpoint)
+    ensures { session.new.list.breakpoints ≡ breakpoints_after session.old (history timeline.now) wanted.now }
+{
     let Some(address) = Address::try_new(wanted.address) else {
         return refuse(&mut session.answer, CommandError::NoWord);
     };
@@ -43,20 +56,26 @@ pub fn set(session: &mut Session, timeline: &Timeline, wanted: &NewBreakpoint) {
 }
 
 /// `0$nB`: clears a breakpoint.
-pub fn unset(session: &mut Session, number: u8) {
+pub fn unset(session: &mut Session, number: u8)
+    ensures { session.new.list.breakpoints ≡ slice_set session.old.list.breakpoints (number - 1) None }
+{
     if !session.list.unset(number) {
         refuse(&mut session.answer, CommandError::NotSet);
     }
 }
 
 /// Adds the address of a stop: ` job 1 LOOP+3`.
-fn say_stop(session: &mut Session, job: u8, address: u32) {
+fn say_stop(session: &mut Session, job: u8, address: u32)
+    ensures { session.new ≡ record session.old { answer = session.new.answer } }
+{
     session.answer.say_number(" job ", u64::from(job), " ");
     session.say_address(job, address);
 }
 
 /// Adds a condition of a job's breakpoint: ` IF COUNT>5`, with the value as a signed number in octal.
-fn say_condition(session: &mut Session, job: u8, condition: Condition) {
+fn say_condition(session: &mut Session, job: u8, condition: Condition)
+    ensures { session.new ≡ record session.old { answer = session.new.answer } }
+{
     session.answer.say(" IF ");
     session.say_address(job, condition.address);
     session.answer.say(condition.comparison.sign());
@@ -70,7 +89,9 @@ fn say_condition(session: &mut Session, job: u8, condition: Condition) {
 }
 
 /// Shows a breakpoint, as it is typed: `$1B job 1 LOOP+3 IF COUNT>5 TIMES 3`.
-fn show_breakpoint(session: &mut Session, number: usize, breakpoint: &Breakpoint) {
+fn show_breakpoint(session: &mut Session, number: usize, breakpoint: &Breakpoint)
+    ensures { session.new ≡ record session.old { answer = session.new.answer } }
+{
     session.answer.say_number("$", number as u64, "B");
     say_stop(session, breakpoint.job, breakpoint.address.number());
     if let Some(condition) = breakpoint.condition {
@@ -95,7 +116,9 @@ pub fn show_one(session: &mut Session, number: u8) {
 }
 
 /// Shows a word that is watched, or no longer: `watched job 1 COUNT`.
-fn show_watched(session: &mut Session, word: WatchedWord, is_watched: bool) {
+fn show_watched(session: &mut Session, word: WatchedWord, is_watched: bool)
+    ensures { session.new ≡ record session.old { answer = session.new.answer } }
+{
     session.answer.say(if is_watched {
         "watched"
     } else {
@@ -129,7 +152,10 @@ pub fn show_stops(session: &mut Session) {
 }
 
 /// `.WATCH a`: watches a word of the open job, or no longer.
-pub fn watch(session: &mut Session, timeline: &Timeline, address: u32) {
+pub fn watch(session: &mut Session, timeline: &Timeline, address: u32)
+    ensures { session.new.list.words.items
+        ≡ words_after session.old address (open_word session.old (history timeline.now) address) }
+{
     let job = session.open;
     if timeline.machine().peek(job, address).is_none() {
         return refuse(&mut session.answer, CommandError::NoWord);
@@ -142,7 +168,11 @@ pub fn watch(session: &mut Session, timeline: &Timeline, address: u32) {
 }
 
 /// `.BREAK CIRCLE`: stops runs at circles of waits, or no longer.
-pub fn stop_at_circles(session: &mut Session) {
+pub fn stop_at_circles(session: &mut Session)
+    ensures list { session.new.list ≡ record session.old.list { circles = not session.old.list.circles } }
+    ensures says { Adds session.old.answer session.new.answer
+        (if session.old.list.circles then codes "runs no longer stop at circles\n" else codes "runs stop at circles\n") }
+{
     session.list.circles = !session.list.circles;
     session.answer.say(if session.list.circles {
         "runs stop at circles\n"
@@ -152,7 +182,11 @@ pub fn stop_at_circles(session: &mut Session) {
 }
 
 /// `.BREAK GRANT`: stops runs where a request is granted, or no longer.
-pub fn stop_at_grants(session: &mut Session) {
+pub fn stop_at_grants(session: &mut Session)
+    ensures list { session.new.list ≡ record session.old.list { grants = not session.old.list.grants } }
+    ensures says { Adds session.old.answer session.new.answer
+        (if session.old.list.grants then codes "runs no longer stop at grants\n" else codes "runs stop at grants\n") }
+{
     session.list.grants = !session.list.grants;
     session.answer.say(if session.list.grants {
         "runs stop at grants\n"

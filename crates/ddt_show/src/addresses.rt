@@ -1,6 +1,8 @@
 //! Addresses, and the words there.
 
-ghost use Rattle.std.specs.Prelude.{◌≡◌, ◌+◌, ◌%◌, ◌^◌, ◌<◌};
+ghost use Rattle.std.specs.Prelude.{◌≡◌, ◌+◌, ◌%◌, ◌^◌, ◌<◌, IfOk, IfSome, string_bytes};
+ghost use Rattle.ddt_show.specs.Words.{address_words, shown_word};
+ghost use Rattle.run_notes.specs.Instructions.{reference_words};
 
 use crate::word_text::WordText;
 use ddt_commands::OutputMode;
@@ -40,7 +42,9 @@ pub fn previous_address(address: u32) -> u32
 }
 
 /// An address as text: `LOOP+3`, or an octal number where no label is near.
-pub fn address_text(alloc: Global, job: &ShownJob, address: u32) -> Result<String, AllocError> {
+pub fn address_text(alloc: Global, job: &ShownJob, address: u32) -> Result<String, AllocError>
+    ensures { IfOk result (λ text. string_bytes text ≡ reference_words job.now.places address) }
+{
     let reference = Reference {
         places: &job.places,
         address,
@@ -55,7 +59,10 @@ pub fn address_line(
     address: u32,
     word: Word,
     mode: OutputMode,
-) -> Result<String, AllocError> {
+) -> Result<String, AllocError>
+    ensures { IfOk result (λ line. IfSome (address_words job.now.places address (shown_word job.now.places mode word))
+        (λ text. string_bytes line ≡ text)) }
+{
     let reference = Reference {
         places: &job.places,
         address,

@@ -1,4 +1,6 @@
 //! The registers of a job.
+ghost use Rattle.std.specs.Prelude.{◌≡◌, IfOk, Some, string_bytes};
+ghost use Rattle.ddt_show.specs.Jobs.{register_line, register_words, registers_words};
 
 use crate::addresses::ShownJob;
 use concrete_machine::Machine;
@@ -7,33 +9,60 @@ use std::alloc::{AllocError, Global};
 use std::fmt;
 use word36::Word;
 
-/// How many accumulators there are.
-const ACCUMULATORS: u32 = 16;
-
-/// How many of them a line has.
-const IN_A_LINE: u32 = 4;
-
-/// The accumulators of a job, four in a line.
+/// An accumulator of a job: its number in octal, in two columns, and its word.
 #[derive(Clone, Copy)]
-struct Accumulators<'a> {
+struct Register<'a> {
     machine: &'a Machine,
     /// The number of the job.
     number: u8,
+    register: u32,
 }
 
-impl fmt::Display for Accumulators<'_> {
+impl fmt::Display for Register<'_> {
+    ghost output = { λ r. Some (register_words r.machine.now.world r.number r.register) };
+
     fn fmt<W: fmt::Write>(&self, f: &mut fmt::Formatter<W>) -> fmt::Result {
-        for register in 0..ACCUMULATORS {
-            let word = self.machine.peek(self.number, register);
-            let word = word.unwrap_or(Word::new(0));
-            let end = if register % IN_A_LINE == IN_A_LINE - 1 {
-                "\n"
-            } else {
-                "  "
-            };
-            write!(f, "{register:>2o}/ {word}{end}")?;
-        }
-        Ok(())
+        let register = self.register;
+        let word = self.machine.peek(self.number, register);
+        let word = word.unwrap_or(Word::new(0));
+        let blank = if register < 8 { " " } else { "" };
+        write!(f, "{blank}{register:o}/ {word}")
+    }
+}
+
+/// Four accumulators of a job, from one on, in a line.
+#[derive(Clone, Copy)]
+struct RegisterLine<'a> {
+    machine: &'a Machine,
+    /// The number of the job.
+    number: u8,
+    /// The first of them, 12 at most.
+    first: u8,
+}
+
+impl fmt::Display for RegisterLine<'_> {
+    ghost output = { λ l. Some (register_line l.machine.now.world l.number l.first) };
+
+    fn fmt<W: fmt::Write>(&self, f: &mut fmt::Formatter<W>) -> fmt::Result {
+        let (machine, number, register) = (self.machine, self.number, u32::from(self.first));
+        let one = Register {
+            machine,
+            number,
+            register,
+        };
+        let two = Register {
+            register: register + 1,
+            ..one
+        };
+        let three = Register {
+            register: register + 2,
+            ..one
+        };
+        let four = Register {
+            register: register + 3,
+            ..one
+        };
+        write!(f, "{one}  {two}  {three}  {four}\n")
     }
 }
 
@@ -42,7 +71,9 @@ pub fn register_lines(
     alloc: Global,
     machine: &Machine,
     job: &ShownJob,
-) -> Result<String, AllocError> {
+) -> Result<String, AllocError>
+    ensures { IfOk result (λ text. string_bytes text ≡ registers_words machine.now.world job.now.places job.now.number) }
+{
     let number = job.number;
     let Some(view) = machine.job(number) else {
         return format!(in alloc; "job {number} is gone\n");
@@ -52,6 +83,13 @@ pub fn register_lines(
         address: view.pc.number(),
     };
     let flags = FlagNames { flags: view.flags };
-    let accumulators = Accumulators { machine, number };
-    format!(in alloc; "job {number}, PC {spot}, flags {flags}\n{accumulators}")
+    let line = RegisterLine {
+        machine,
+        number,
+        first: 0,
+    };
+    let four = RegisterLine { first: 4, ..line };
+    let eight = RegisterLine { first: 8, ..line };
+    let twelve = RegisterLine { first: 12, ..line };
+    format!(in alloc; "job {number}, PC {spot}, flags {flags}\n{line}{four}{eight}{twelve}")
 }

@@ -1,9 +1,11 @@
 //! Words, in each mode in which they are shown.
 
-ghost use Rattle.std.specs.Prelude.{◌≡◌, ◌++◌, ◌∷◌, [], codes, string_bytes, IfOk, IfSome};
-ghost use Rattle.std.specs.Fmt.{WritesOnOk};
+ghost use Rattle.std.specs.Prelude.{◌≡◌, ◌++◌, ◌∷◌, ◌<◌, ◌≤◌, [], codes, drop, length, string_bytes, true, IfOk, IfSome, if◌then◌else◌};
+ghost use Rattle.std.specs.Fmt.{DisplaysOnOk, WritesOnOk, digit_glyph, digits};
+ghost use Rattle.std.specs.Int.{is_negative};
 ghost use Rattle.ddt_commands.specs.Characters.{ascii_codes, sixbit_codes};
-ghost use Rattle.ddt_show.specs.Words.{change_words, marked, octal_or_none, shown_word};
+ghost use Rattle.ddt_show.specs.Words.{change_words, halves_words, marked, octal_or_none};
+ghost use Rattle.ddt_show.specs.Words.{point_words, radix_words, shown_word, signed_words};
 
 use crate::addresses::ShownJob;
 use ddt_commands::{Codes, OutputMode, ascii_codes, sixbit_codes};
@@ -58,9 +60,31 @@ fn write_sixbit<W: fmt::Write>(word: Word, f: &mut fmt::Formatter<W>) -> fmt::Re
     write!(f, "'{codes}'")
 }
 
-/// The digit of a value from 0 to 15.
-fn digit(value: u64) -> u8 {
-    let value = (value & 0o17) as u8;
+/// Writes the two halves of a word, each as an address.
+fn write_halves<W: fmt::Write>(
+    places: &Places,
+    word: Word,
+    f: &mut fmt::Formatter<W>,
+) -> fmt::Result
+    ensures { WritesOnOk W.write_str_gives f.old result (halves_words places.now word) f.new }
+{
+    let left = Reference {
+        places,
+        address: word.left(),
+    };
+    let right = Reference {
+        places,
+        address: word.right(),
+    };
+    write!(f, "{left},,{right}")
+}
+
+/// The digit of a value.
+fn digit(value: u64) -> u8
+    requires { value < 16 }
+    ensures { result ≡ digit_glyph true value }
+{
+    let value = value as u8;
     if value < 10 {
         b'0' + value
     } else {
@@ -68,33 +92,82 @@ fn digit(value: u64) -> u8 {
     }
 }
 
-/// How many digits a number of 36 bits has at most, in radix 2.
-const DIGITS: usize = 36;
+/// How many digits a number has at most, in radix 2.
+const DIGITS: usize = 64;
 
-/// Writes a word as a signed number of a radix; a point stands behind a decimal one.
-fn write_radix<W: fmt::Write>(word: Word, radix: u8, f: &mut fmt::Formatter<W>) -> fmt::Result {
-    let value = word.signed();
-    let base = u64::from(radix.max(2));
-    let mut left = value.unsigned_abs();
-    let mut digits = [b'0'; DIGITS];
-    let mut first = DIGITS - 1;
-    for position in (0..DIGITS).rev() {
-        digits[position] = digit(left % base);
-        if digits[position] != b'0' {
-            first = position;
+/// The digits of a number in a radix, at the end of some room, and the position of the first.
+fn digits_of(number: u64, radix: u64) -> ([u8; DIGITS], usize)
+    requires least { 2 ≤ radix }
+    requires most { radix ≤ 16 }
+    ensures within { result.1 ≤ 64 }
+    ensures size { length result.0 ≡ 64 }
+    ensures digits { drop result.1 result.0 ≡ digits radix true number }
+{
+    let mut left = number;
+    let mut room = [b'0'; DIGITS];
+    for count in 0..DIGITS {
+        let position = DIGITS - 1 - count;
+        room[position] = digit(left % radix);
+        left /= radix;
+        if left == 0 {
+            return (room, position);
         }
-        left /= base;
     }
+    (room, 0)
+}
+
+/// Writes a number in a radix.
+fn write_digits<W: fmt::Write>(number: u64, radix: u8, f: &mut fmt::Formatter<W>) -> fmt::Result
+    requires least { 2 ≤ radix }
+    requires most { radix ≤ 16 }
+    ensures { WritesOnOk W.write_str_gives f.old result (digits radix true number) f.new }
+{
+    let (room, first) = digits_of(number, u64::from(radix));
     let digits = Codes {
-        codes: &digits[first..],
+        codes: &room[first..],
     };
-    let sign = if value < 0 { "-" } else { "" };
-    let point = if radix == 10 { "." } else { "" };
-    write!(f, "{sign}{digits}{point}")
+    write!(f, "{digits}")
+}
+
+/// The sign of a number.
+fn sign_of(value: i64) -> &'static str
+    ensures { result.now ≡ (if is_negative value then codes "-" else []) }
+{
+    if value.is_negative() { "-" } else { "" }
+}
+
+/// The point after a decimal number.
+fn point_of(radix: u8) -> &'static str
+    ensures { result.now ≡ point_words radix }
+{
+    if radix == 10 { "." } else { "" }
+}
+
+/// Writes a word as a signed number of a radix, with a point after a decimal one.
+fn write_signed<W: fmt::Write>(word: Word, radix: u8, f: &mut fmt::Formatter<W>) -> fmt::Result
+    requires least { 2 ≤ radix }
+    requires most { radix ≤ 16 }
+    ensures { WritesOnOk W.write_str_gives f.old result (signed_words radix word) f.new }
+{
+    let value = word.signed();
+    f.write_str(sign_of(value))?;
+    write_digits(value.unsigned_abs(), radix, f)?;
+    f.write_str(point_of(radix))
+}
+
+/// Writes a word as a signed number of a radix, 2 to 16; nothing for another radix.
+fn write_radix<W: fmt::Write>(word: Word, radix: u8, f: &mut fmt::Formatter<W>) -> fmt::Result
+    ensures { DisplaysOnOk W.write_str_gives f.old result (radix_words radix word) f.new }
+{
+    if 2 <= radix && radix <= 16 {
+        write_signed(word, radix, f)
+    } else {
+        Ok(())
+    }
 }
 
 impl fmt::Display for WordText<'_> {
-    ghost output = { λ t. shown_word t.mode t.word };
+    ghost output = { λ t. shown_word t.places.now t.mode t.word };
 
     fn fmt<W: fmt::Write>(&self, f: &mut fmt::Formatter<W>) -> fmt::Result {
         match self.mode {
@@ -109,17 +182,7 @@ impl fmt::Display for WordText<'_> {
             OutputMode::Text => write_text(self.word, f),
             OutputMode::Ascii => write_ascii(self.word, f),
             OutputMode::Sixbit => write_sixbit(self.word, f),
-            OutputMode::Halves => {
-                let left = Reference {
-                    places: self.places,
-                    address: self.word.left(),
-                };
-                let right = Reference {
-                    places: self.places,
-                    address: self.word.right(),
-                };
-                write!(f, "{left},,{right}")
-            }
+            OutputMode::Halves => write_halves(self.places, self.word, f),
             OutputMode::Radix(radix) => write_radix(self.word, radix, f),
         }
     }
@@ -132,7 +195,7 @@ pub fn word_line(
     word: Word,
     mode: OutputMode,
 ) -> Result<String, AllocError>
-    ensures { IfOk result (λ line. IfSome (shown_word mode word) (λ text. string_bytes line ≡ text ++ (10 ∷ []))) }
+    ensures { IfOk result (λ line. IfSome (shown_word job.now.places mode word) (λ text. string_bytes line ≡ text ++ (10 ∷ []))) }
 {
     let text = WordText {
         places: &job.places,

@@ -2,9 +2,10 @@
 //! output, and reports to standard error what is wrong with a line that is refused.
 #![tactic(auto)]
 
-use lockcheck_program::{FAILURE_LINES, Progress, program};
+use lockcheck_program::{FAILURE_LINES, program};
 use program_shell::arguments_or_status;
 use script_io::{HostIn, HostOut};
+use search_progress::Progress;
 use std::io::IsTerminal;
 use std::process::ExitCode;
 
@@ -17,7 +18,7 @@ fn main(rt: HostRuntime) -> ExitCode {
     let mut reader = HostIn::new(rt.stdin());
     let mut writer = HostOut::new(rt.stdout());
     let is_wanted = rt.stderr().is_terminal();
-    let mut watch = Progress::new(HostOut::new(rt.stderr()), is_wanted);
+    let mut watch = Progress::new(HostOut::new(rt.stderr()), b"lockcheck: ", is_wanted);
     let status = program(
         &rt,
         arguments.as_slice(),

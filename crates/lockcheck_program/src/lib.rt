@@ -4,7 +4,6 @@
 mod arguments;
 mod copying;
 mod input;
-mod progress;
 mod reading;
 mod refusals;
 mod report;
@@ -13,7 +12,6 @@ mod serving;
 mod statuses;
 
 pub use arguments::{DEFAULT_STATES, Options};
-pub use progress::Progress;
 pub use reading::{ScriptError, read_programs};
 pub use report::report_text;
 pub use serving::{FAILURE_LINES, check_script, program};

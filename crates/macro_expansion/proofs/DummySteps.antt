@@ -1,58 +1,58 @@
--- The names of dummies: the steps of their reading.
-use Rattle.std.proofs.Common.{◌≡◌, ℕ, suc, Bool, ◌++◌, ◌∷◌, [], List, drop, true, false, Result, Ok, Err, refl, sym, ap, ◌∙◌}
-use Rattle.mac_text.specs.Scan.{begins_with}
+-- Dummies: the steps of their reading.
+use Rattle.std.proofs.Common.{◌≡◌, ℕ, suc, Bool, List, true, false, Result, Ok, Err, refl, sym, ap, ◌∙◌}
 use Rattle.macro_expressions.specs.declared.fault.Fault.{Fault}
 use Rattle.macro_expressions.specs.declared.fault.Fault.TheVariants as faults
 use Rattle.macro_expressions.specs.declared.fault.Stop.{Stop}
 use Rattle.macro_expressions.specs.Reading.{◌>>=◌, Fails}
 use Rattle.macro_expansion.specs.Brackets.{past_comma}
-use Rattle.macro_expansion.specs.Macros.{dummy_next, dummies_at}
+use Rattle.macro_expansion.specs.Macros.{Dummies, end_or_dummy, dummies_at}
 
--- the names that come after one that is read, or is not
-by_read : ℕ → List ℕ → Result (ℕ × List ℕ) Stop → Result (List ℕ × List ℕ) Stop
-by_read n names read = read >>= λ x. dummies_at n (names ++ x.0 ∷ []) x.1
+-- `)` or a dummy, and what comes after it
+abbrev One : Type 0
+One = Bool × (Dummies × List ℕ)
 
--- the names by the text after blanks and a comma, which begins with `)` or not
-by_end : ℕ → List ℕ → List ℕ → Bool → Result (List ℕ × List ℕ) Stop
-by_end n names next true = Ok (names, drop 1 next)
-by_end n names next false = by_read n names (dummy_next next)
+-- all dummies, by `)` or the next one, if it is read
+by_one : ℕ → Result One Stop → Result (Dummies × List ℕ) Stop
+by_one n read = read >>= λ x. elim x.0 [ true ↦ Ok x.1 | false ↦ dummies_at n (x.1).0 (x.1).1 ]
 
-by_next : ℕ → List ℕ → List ℕ → Result (List ℕ × List ℕ) Stop
-by_next n names next = by_end n names next (begins_with 41 next)
+begins : (n : ℕ) (d : Dummies) (text : List ℕ) → dummies_at (suc n) d text ≡ by_one n (end_or_dummy d (past_comma text))
+unfolding dummies_at by_one
+begins n d text = refl
 
-begins : (n : ℕ) (names text : List ℕ) → dummies_at (suc n) names text ≡ by_next n names (past_comma text)
-unfolding dummies_at by_next by_end by_read
-begins n names text = refl
+is_end : (n : ℕ) (d : Dummies) (rest : List ℕ) → by_one n (Ok (true, (d, rest))) ≡ Ok (d, rest)
+unfolding by_one
+is_end n d rest = refl
 
-goes_on : (n : ℕ) (names next : List ℕ) → begins_with 41 next ≡ false → by_next n names next ≡ by_read n names (dummy_next next)
-unfolding by_next by_end
-goes_on n names next other = ap (by_end n names next) other
+is_dummy : (n : ℕ) (d : Dummies) (rest : List ℕ) → by_one n (Ok (false, (d, rest))) ≡ dummies_at n d rest
+unfolding by_one
+is_dummy n d rest = refl
 
-is_read : (n : ℕ) (names : List ℕ) (name : ℕ) (rest : List ℕ) → by_read n names (Ok (name, rest)) ≡ dummies_at n (names ++ name ∷ []) rest
-unfolding by_read
-is_read n names name rest = refl
+is_neither : (n : ℕ) (stop : Stop) → by_one n (Err stop) ≡ Err stop
+unfolding by_one
+is_neither n stop = refl
 
-is_not_read : (n : ℕ) (names : List ℕ) (stop : Stop) → by_read n names (Err stop) ≡ Err stop
-unfolding by_read
-is_not_read n names stop = refl
+-- what comes next, after blanks and a comma, leads to all dummies
+leads : (m n : ℕ) (d : Dummies) (text next : List ℕ) (read : Result One Stop) → m ≡ suc n → next ≡ past_comma text
+    → end_or_dummy d next ≡ read → dummies_at m d text ≡ by_one n read
+leads m n d text next read is_more is_next reads =
+    ap (λ k. dummies_at k d text) is_more
+    ∙ (begins n d text ∙ ap (by_one n) (ap (end_or_dummy d) (sym is_next) ∙ reads))
 
--- what a name that comes next leads to
-leads : (m n : ℕ) (names text next : List ℕ) → m ≡ suc n → next ≡ past_comma text → begins_with 41 next ≡ false
-    → dummies_at m names text ≡ by_read n names (dummy_next next)
-leads m n names text next is_more is_next other =
-    ap (λ k. dummies_at k names text) is_more ∙ (begins n names text ∙ (ap (by_next n names) (sym is_next) ∙ goes_on n names next other))
+-- `)` is read
+pub dummies_end : (m n : ℕ) (d e : Dummies) (text next rest : List ℕ) (ends : Bool) → m ≡ suc n → next ≡ past_comma text
+    → end_or_dummy d next ≡ Ok (ends, (e, rest)) → ends ≡ true → dummies_at m d text ≡ Ok (e, rest)
+dummies_end m n d e text next rest ends is_more is_next reads ended =
+    leads m n d text next (Ok (true, (e, rest))) is_more is_next (reads ∙ ap (λ b. Ok (b, (e, rest))) ended) ∙ is_end n e rest
 
--- a name is read, and more may come
-pub dummy_goes_on : (m n : ℕ) (names text next : List ℕ) (name : ℕ) (rest all : List ℕ)
-    → m ≡ suc n → next ≡ past_comma text → begins_with 41 next ≡ false → dummy_next next ≡ Ok (name, rest) → all ≡ names ++ name ∷ []
-    → dummies_at m names text ≡ dummies_at n all rest
-dummy_goes_on m n names text next name rest all is_more is_next other reads is =
-    leads m n names text next is_more is_next other
-    ∙ (ap (by_read n names) reads ∙ (is_read n names name rest ∙ ap (λ xs. dummies_at n xs rest) (sym is)))
+-- a dummy is read, and more may come
+pub dummies_go_on : (m n : ℕ) (d e : Dummies) (text next rest : List ℕ) (ends : Bool) → m ≡ suc n → next ≡ past_comma text
+    → end_or_dummy d next ≡ Ok (ends, (e, rest)) → ends ≡ false → dummies_at m d text ≡ dummies_at n e rest
+dummies_go_on m n d e text next rest ends is_more is_next reads more =
+    leads m n d text next (Ok (false, (e, rest))) is_more is_next (reads ∙ ap (λ b. Ok (b, (e, rest))) more) ∙ is_dummy n e rest
 
--- a name is not read
-pub dummy_stops : (e : Fault) (m n : ℕ) (names text next : List ℕ)
-    → m ≡ suc n → next ≡ past_comma text → begins_with 41 next ≡ false → Fails e (dummy_next next) → Fails e (dummies_at m names text)
-dummy_stops faults.Memory m n names text next is_more is_next other fails = tt
-dummy_stops (faults.Stopped stop) m n names text next is_more is_next other fails =
-    leads m n names text next is_more is_next other ∙ (ap (by_read n names) fails ∙ is_not_read n names stop)
+-- neither is read
+pub dummies_stop : (e : Fault) (m n : ℕ) (d : Dummies) (text next : List ℕ) → m ≡ suc n → next ≡ past_comma text
+    → Fails e (end_or_dummy d next) → Fails e (dummies_at m d text)
+dummies_stop faults.Memory m n d text next is_more is_next fails = tt
+dummies_stop (faults.Stopped stop) m n d text next is_more is_next fails =
+    leads m n d text next (Err stop) is_more is_next fails ∙ is_neither n stop

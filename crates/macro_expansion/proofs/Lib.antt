@@ -1,1 +1,2 @@
 pub mod DummySteps
+pub mod Parts

@@ -1,5 +1,5 @@
 -- Texts in brackets, and what conditions and repetitions put before the rest of a text (MACRO-10 Assembler Manual).
-use Rattle.std.specs.Prelude.{ℕ, zero, suc, ◌+◌, ◌-◌, ◌*◌, ℤ, pos, int_le, Result, Ok, Err, Bool, true, false, ◌==◌, ◌||◌, ◌&&◌, nat_eq, nat_le}
+use Rattle.std.specs.Prelude.{ℕ, zero, suc, ◌+◌, ◌-◌, ◌*◌, ℤ, pos, int_le, Result, Ok, Err, Bool, true, false, ◌==◌, ◌||◌, ◌&&◌, nat_le}
 use Rattle.std.specs.Prelude.{List, [], ◌∷◌, ◌++◌, length, take, drop, slice_get, Option, Some, None, unsigned_abs, if◌then◌else◌}
 use Rattle.std.specs.Option.{option_map}
 use Rattle.std.specs.List.{list_any, list_all}
@@ -8,7 +8,7 @@ use Rattle.mac_text.specs.Scan.{after_blanks, begins_with}
 use Rattle.macro_expressions.specs.declared.fault.Stop.{Stop}
 use Rattle.macro_expressions.specs.declared.fault.Stop.TheVariants.{Beyond}
 use Rattle.macro_expressions.specs.Reading.{◌>>=◌, or_stop, ends_line}
-use Rattle.macro_expansion.specs.Marked.{marked_text}
+use Rattle.macro_expansion.specs.Marked.{is_mark, marked_text}
 
 -- after a `<`: the position of the `>` that closes it, by how many brackets are open in it, and how many characters were passed
 unfoldable pub closed_at : ℕ → ℕ → List ℕ → Option ℕ
@@ -69,9 +69,12 @@ joins text rest = length text == 0 || (ends_with_line text || ends_line (after_b
 abbrev pub bracketed_or_marked : List ℕ → Result (List ℕ × List ℕ) Stop
 bracketed_or_marked text = if begins_with 60 text then or_stop Beyond (bracketed text) else marked_text text
 
--- one with CR in it is not judged
+-- one with CR or a mark in it is not judged
+abbrev pub is_unjudged : ℕ → Bool
+is_unjudged c = c == 13 || is_mark c
+
 abbrev pub without_returns : List ℕ × List ℕ → Result (List ℕ × List ℕ) Stop
-without_returns x = if list_any (nat_eq 13) x.0 then Err Beyond else Ok x
+without_returns x = if list_any is_unjudged x.0 then Err Beyond else Ok x
 
 abbrev pub compared : List ℕ → Result (List ℕ × List ℕ) Stop
 compared text = bracketed_or_marked (after_blanks text) >>= λ x. without_returns x

@@ -1,3 +1,4 @@
 pub mod Marked
 pub mod Brackets
 pub mod Macros
+pub mod Rounds

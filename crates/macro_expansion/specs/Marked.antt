@@ -1,5 +1,5 @@
 -- Texts between two equal marks (MACRO-10 Assembler Manual), and their words.
-use Rattle.std.specs.Prelude.{ℕ, zero, suc, ◌+◌, ◌*◌, Result, Ok, Err, nat_eq, nat_le}
+use Rattle.std.specs.Prelude.{ℕ, zero, suc, ◌+◌, ◌*◌, Bool, ◌==◌, ◌||◌, Result, Ok, Err, nat_le}
 use Rattle.std.specs.Prelude.{List, [], ◌∷◌, ◌++◌, length, Option, Some, None, if◌then◌else◌}
 use Rattle.std.specs.List.{list_any}
 use Rattle.mac_text.specs.Scan.{after_blanks, begins_with}
@@ -12,10 +12,20 @@ use Rattle.macro_expressions.specs.declared.fault.Stop.{Stop}
 use Rattle.macro_expressions.specs.declared.fault.Stop.TheVariants.{Wrong, Beyond}
 use Rattle.macro_expressions.specs.Reading.{◌>>=◌, Reader, or_stop}
 
--- the text between two equal marks, and what comes after; one of several lines is not judged
+-- 253, 254 and 255 are no characters of a source: they are marks in the texts that macros and rounds put before the rest
+abbrev pub is_mark : ℕ → Bool
+is_mark c = nat_le 128 c
+
+abbrev pub has_marks : List ℕ → Bool
+has_marks text = list_any is_mark text
+
+abbrev pub ends_text : ℕ → Bool
+ends_text c = c == 10 || is_mark c
+
+-- the text between two equal characters, and what comes after; one of several lines, or with marks, is not judged
 abbrev pub of_one_line : Option (List ℕ × List ℕ) → Result (List ℕ × List ℕ) Stop
 of_one_line None = Err Beyond
-of_one_line (Some x) = if list_any (nat_eq 10) x.0 then Err Beyond else Ok x
+of_one_line (Some x) = if list_any ends_text x.0 then Err Beyond else Ok x
 
 abbrev pub marked_text : List ℕ → Result (List ℕ × List ℕ) Stop
 marked_text text = if begins_with 10 text then Err Beyond else of_one_line (text_from text)

@@ -1,9 +1,9 @@
 //! What conditions compare.
 
-ghost use Rattle.std.specs.Prelude.{◌≡◌, nat_eq};
+ghost use Rattle.std.specs.Prelude.{◌≡◌};
 ghost use Rattle.std.specs.List.{list_any};
 ghost use Rattle.macro_expressions.specs.Reading.{Gives};
-ghost use Rattle.macro_expansion.specs.Brackets.{bracketed_or_marked, compared, is_space, is_spaces};
+ghost use Rattle.macro_expansion.specs.Brackets.{is_unjudged, bracketed_or_marked, compared, is_space, is_spaces};
 
 use crate::brackets::{behind_blanks, bracketed};
 use crate::texts::marked_text;
@@ -22,11 +22,11 @@ fn bracketed_or_marked(text: &[u8]) -> Result<(&[u8], &[u8]), Fault>
     }
 }
 
-/// Whether a text has a CR.
-fn has_return(text: &[u8]) -> bool
-    ensures { result ≡ list_any (nat_eq 13) text.now }
+/// Whether a text has a CR or a mark.
+fn is_unjudged(text: &[u8]) -> bool
+    ensures { result ≡ list_any is_unjudged text.now }
 {
-    text.iter().any(|c| 13 == *c)
+    text.iter().any(|c| *c == 13 || 128 <= *c)
 }
 
 /// What IFIDN and IFB compare, which comes next, and what comes after.
@@ -34,14 +34,14 @@ pub fn compared(text: &[u8]) -> Result<(&[u8], &[u8]), Fault>
     ensures { Gives (λ x. (x.0.now, x.1.now)) result (compared text.now) }
 {
     let found = bracketed_or_marked(behind_blanks(text))?;
-    if has_return(found.0) {
+    if is_unjudged(found.0) {
         return Err(BEYOND);
     }
     Ok(found)
 }
 
 /// A blank or the end of a line.
-fn is_space(c: u8) -> bool
+pub fn is_space(c: u8) -> bool
     ensures { result ≡ is_space c }
 {
     c == b' ' || c == b'\t' || c == 0o14 || c == b'\n'

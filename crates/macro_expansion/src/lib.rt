@@ -7,9 +7,11 @@ mod brackets;
 mod calls;
 mod comparisons;
 mod dummies;
+mod irp;
 mod texts;
 
 pub use brackets::{bracketed, joins, lined, past_comma, rounds, text_next};
 pub use calls::{call, definition};
 pub use comparisons::{compared, is_spaces};
-pub use texts::{text, up_to_next, with_word};
+pub use irp::elements;
+pub use texts::{has_marks, text, up_to_next, with_word};

@@ -6,7 +6,7 @@ ghost use Rattle.std.specs.Option.{option_map};
 ghost use Rattle.mac_text.specs.Texts.{text_from, up_to_next};
 ghost use Rattle.mac_asm.specs.Packing.{ascii_word, sixbit_word};
 ghost use Rattle.macro_expressions.specs.Reading.{Gives};
-ghost use Rattle.macro_expansion.specs.Marked.{marked_text, text_word, packed, text_words_of, text_at};
+ghost use Rattle.macro_expansion.specs.Marked.{has_marks, ends_text, marked_text, text_word, packed, text_words_of, text_at};
 
 use mac_layout::text_words;
 use mac_text::{TextForm, folded};
@@ -25,11 +25,18 @@ fn position_of(c: u8, text: &[u8]) -> Option<usize>
     text.iter().position(|d| *d == c)
 }
 
-/// Whether a text goes over a line.
-fn has_line_end(text: &[u8]) -> bool
-    ensures { result ≡ list_any (nat_eq 10) text.now }
+/// Whether a text has a mark, which is no character of a source.
+pub fn has_marks(text: &[u8]) -> bool
+    ensures { result ≡ has_marks text.now }
 {
-    text.iter().any(|c| 10 == *c)
+    text.iter().any(|c| 128 <= *c)
+}
+
+/// Whether a text goes over a line, or has a mark.
+fn is_ended(text: &[u8]) -> bool
+    ensures { result ≡ list_any ends_text text.now }
+{
+    text.iter().any(|c| *c == 10 || 128 <= *c)
 }
 
 /// The text up to a mark, and what comes after the mark.
@@ -62,7 +69,7 @@ pub fn marked_text(text: &[u8]) -> Result<(&[u8], &[u8]), Fault>
     let Some((inner, behind)) = between_marks(text) else {
         return Err(BEYOND);
     };
-    if has_line_end(inner) {
+    if is_ended(inner) {
         return Err(BEYOND);
     }
     Ok((inner, behind))

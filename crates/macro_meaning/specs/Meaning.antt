@@ -16,7 +16,7 @@ use Rattle.macro_values.specs.Values.{has_word}
 use Rattle.macro_expressions.specs.declared.fault.Stop.{Stop}
 use Rattle.macro_expressions.specs.declared.fault.Stop.TheVariants.{Wrong, Beyond}
 use Rattle.macro_statements.specs.declared.forms.Meant.{Meant}
-use Rattle.macro_statements.specs.declared.forms.Meant.TheVariants.{Pseudo}
+use Rattle.macro_statements.specs.declared.forms.Meant.TheVariants.{Operation, Pseudo}
 use Rattle.macro_statements.specs.declared.forms.Test.{Test}
 use Rattle.macro_statements.specs.declared.forms.Test.TheVariants.{Equal, Unequal, Greater, NotLess, Less, NotGreater}
 use Rattle.macro_statements.specs.declared.forms.Form.{Form}
@@ -24,7 +24,9 @@ use Rattle.macro_statements.specs.declared.forms.Form.TheVariants as forms
 use Rattle.macro_expressions.specs.declared.symbols.Defined.{Defined}
 use Rattle.macro_expressions.specs.Reading.{◌>>=◌, Front, or_stop, without, skipped, begins_name, ends_line, without_line, across_lines}
 use Rattle.macro_expansion.specs.Brackets.{past_comma, text_next, lined, times, rounds_of, joins, compared, is_spaces}
+use Rattle.macro_expansion.specs.Marked.{is_mark, has_marks}
 use Rattle.macro_expansion.specs.Macros.{definition_at, call_at}
+use Rattle.macro_expansion.specs.Rounds.{rounds_at}
 use Rattle.macro_statements.specs.Forms.{built_in}
 use Rattle.macro_statements.specs.Mentions.{behind_word, mentions, surveyed}
 use Rattle.macro_expressions.specs.Values.{Names, Scope, defined_as, as_word, as_natural, optional_at}
@@ -33,7 +35,8 @@ use Rattle.macro_statements.specs.Words.{words_by, form_words, meant_at, inside_
 -- what the statements so far have left: the place of the next word, the symbols so far with their last values, the places of the
 -- pools to come, the words so far with their places, and the start, after END; the names that may be macros, the definitions so far as
 -- they are kept, and the position of each macro's in them; the names that a condition found not defined; whether the
--- values so far are the same whatever the table has; and how many characters were put in front
+-- values so far are the same whatever the table has; how many characters were put in front, and how many names were made; and whether
+-- the round of IRP that is read is the last, if one is
 pub record Walk : Type 0 where
   pub place : ℕ
   pub defined : List (ℕ × Defined)
@@ -46,6 +49,8 @@ pub record Walk : Type 0 where
   pub asked : List ℕ
   pub is_sure : Bool
   pub spent : ℕ
+  pub made : ℕ
+  pub is_last : Option Bool
 
 abbrev pub first_place : ℕ
 first_place = 0o140
@@ -64,6 +69,8 @@ begun pools callable =
       asked = [];
       is_sure = true;
       spent = 0;
+      made = 0;
+      is_last = None;
     }
 
 -- ---- names
@@ -168,6 +175,24 @@ end_step scope w s = do
   v ← placing (x.1).pool w
   Ok (record v { start = Some n }, record (x.1) { pool = [] })
 
+-- the rest of a line says nothing, if it has no mark
+unfoldable pub is_plain_line : List ℕ → Bool
+is_plain_line [] = true
+is_plain_line (c ∷ cs) = elim (c == 10 || is_mark c) [ true ↦ c == 10 | false ↦ is_plain_line cs ]
+
+abbrev pub line_step : Walk → Front → Result Left Stop
+line_step w s = if is_plain_line s.rest then Ok (w, without_line s) else Err Beyond
+
+-- STOPI: the round that is read is the last
+abbrev pub stop_step : Walk → Front → Result Left Stop
+stop_step w s = if is_some w.is_last then Ok (record w { is_last = Some true }, s) else Err Wrong
+
+-- before a round: it is read, or nothing more is
+abbrev pub round_step : Option Bool → Walk → Front → Result Left Stop
+round_step None w s = Err Beyond
+round_step (Some true) w s = Ok (w, record s { rest = [] })
+round_step (Some false) w s = Ok (w, without 1 s)
+
 -- after the name of a pseudo-operation
 abbrev pub form_step : Scope → Form → Walk → Front → Result Left Stop
 form_step scope forms.Loc w s = place_step w s
@@ -175,13 +200,15 @@ form_step scope forms.Radix w s = radix_step w s
 form_step scope forms.Block w s = block_step w s
 form_step scope forms.Lit w s = pool_step w s
 form_step scope forms.End w s = end_step scope w s
-form_step scope forms.Title w s = Ok (w, without_line s)
-form_step scope forms.Remark w s = Ok (w, without_line s)
+form_step scope forms.Title w s = line_step w s
+form_step scope forms.Remark w s = line_step w s
+form_step scope forms.Stopi w s = stop_step w s
 form_step scope form w s = words_step w (form_words scope form s)
 
 abbrev pub meant_step : Scope → Option Meant → Walk → Front → Result Left Stop
 meant_step scope (Some (Pseudo form)) w s = form_step scope form w (without (length (word_of s.rest)) s)
-meant_step scope meant w s = words_step w (words_by scope meant s)
+meant_step scope (Some (Operation named)) w s = words_step w (words_by scope (Some (Operation named)) s)
+meant_step scope None w s = if begins_with 253 s.rest then round_step w.is_last w s else words_step w (words_by scope None s)
 
 abbrev pub less : ℕ → List ℕ → List ℕ
 less c text = if begins_with c text then drop 1 text else text
@@ -356,18 +383,22 @@ comment_text text = if begins_with 10 text || begins_with 13 text then None else
 unfoldable pub comment_step : Front → Result Texts Stop
 comment_step s = do
   x ← or_stop Beyond (comment_text (skipped s).rest)
-  Ok (None, record s { rest = x.1 })
+  if has_marks x.0 then Err Beyond else Ok (None, record s { rest = x.1 })
+
+-- IRP and IRPC
+unfoldable pub irp_step : Bool → Front → Result Texts Stop
+irp_step by_character s = rounds_at by_character s.rest >>= λ x. Ok (Some x.0, record s { rest = x.1 })
 
 -- a name that may be a macro
 abbrev pub is_call : Walk → List ℕ → Bool
 is_call w text = begins_name text && list_any (nat_eq (symbol_of (word_of text))) w.callable
 
--- the call of a macro, which has to be defined
-unfoldable pub call_step : Walk → Front → Result Texts Stop
+-- the call of a macro, which has to be defined; at most 9999 names are made
+unfoldable pub call_step : Walk → Front → Result Opened Stop
 call_step w s = do
   at ← or_stop Beyond (lookup (nat_eq (symbol_of (word_of s.rest))) w.macros)
-  x ← call_at (drop at w.kept) (behind_word s.rest)
-  Ok (Some x.0, record s { rest = x.1 })
+  x ← call_at (drop at w.kept) w.made (behind_word s.rest)
+  if nat_lt (x.0).1 10000 then Ok (Some (x.0).0, (record w { made = (x.0).1 }, record s { rest = x.1 })) else Err Beyond
 
 -- pseudo-operations after which the line goes on as at the beginning of a statement, and after their names what they do
 abbrev pub opens : Form → Bool
@@ -378,6 +409,7 @@ opens (forms.IfSame wanted) = true
 opens (forms.IfBlank wanted) = true
 opens forms.Define = true
 opens forms.Comment = true
+opens (forms.Irp by_character) = true
 opens _ = false
 
 abbrev pub opening_step : Form → Walk → Front → Result Opened Stop
@@ -388,6 +420,7 @@ opening_step (forms.IfSame wanted) w s = beside w (same_step wanted s)
 opening_step (forms.IfBlank wanted) w s = beside w (blank_step wanted s)
 opening_step forms.Define w s = define_step w s
 opening_step forms.Comment w s = beside w (comment_step s)
+opening_step (forms.Irp by_character) w s = beside w (irp_step by_character s)
 opening_step _ w s = Err Beyond
 
 abbrev pub is_opening : Option Meant → Bool
@@ -407,7 +440,7 @@ unfoldable pub unlabelled_step : List (ℕ × ℤ) → Walk → Front → Result
 unlabelled_step table w s =
     elim (is_assignment s.rest) [
       | true ↦ plain (ended (assignment_step (scope_of table w) w s))
-      | false ↦ elim (is_call w s.rest) [ true ↦ beside w (call_step w s) | false ↦ named_step table (meant_at s.rest) w s ]
+      | false ↦ elim (is_call w s.rest) [ true ↦ call_step w s | false ↦ named_step table (meant_at s.rest) w s ]
     ]
 
 -- a label or a statement, which is next
@@ -424,6 +457,13 @@ can_enter text s = joins text s.rest && not (mentions false false text)
 abbrev pub spending : ℕ → Walk → Result Walk Stop
 spending size w = if nat_le (w.spent + size) 1000000 then Ok (record w { spent = w.spent + size }) else Err Beyond
 
+-- while the rounds of IRP are read, the last is the one after which none comes, or in which STOPI is
+abbrev pub entering : List ℕ → Walk → Walk
+entering text w = if begins_with 253 text then record w { is_last = Some false } else w
+
+abbrev pub leaving : List ℕ → Option Bool → Walk → Walk
+leaving text before w = if begins_with 253 text then record w { is_last = before } else w
+
 -- such a text is read before the rest
 abbrev pub entered : (Walk → Front → Result Left Stop) → Option (List ℕ) → Walk → Front → Result Left Stop
 entered deeper None w s = Ok (w, s)
@@ -431,8 +471,8 @@ entered deeper (Some text) w s =
     elim (can_enter text s) [
       | true ↦ do
         v ← spending (length text) w
-        x ← deeper v (record s { rest = text })
-        Ok (x.0, record (x.1) { rest = s.rest })
+        x ← deeper (entering text v) (record s { rest = text })
+        Ok (leaving text w.is_last x.0, record (x.1) { rest = s.rest })
       | false ↦ Err Beyond
     ]
 

@@ -5,18 +5,21 @@ ghost use Rattle.std.specs.Option.{option_map};
 ghost use Rattle.macro_expressions.specs.Reading.{Gives};
 ghost use Rattle.macro_expansion.specs.Brackets.{times};
 ghost use Rattle.macro_meaning.specs.Meaning.{text_if, as_wanted, holds, number_step, repeat_step, blank_step, same_step, is_asked, defined_step};
-ghost use Rattle.macro_meaning.specs.Meaning.{takes_macro, define_step, comment_text, comment_step, is_call, call_step};
+ghost use Rattle.macro_meaning.specs.Meaning.{takes_macro, define_step, comment_text, comment_step, irp_step, is_call, call_step};
 ghost use Rattle.macro_meaning.specs.Meaning.{opens, is_opening, opening_step, opening_of};
 
 use crate::early::sure_number;
 use crate::walk::Walk;
 use mac_text::Symbol;
 use macro_expansion::{
-    call as call_text, compared, definition, is_spaces, lined, past_comma, rounds, text_next,
-    up_to_next,
+    call as call_text, compared, definition, elements, has_marks, is_spaces, lined, past_comma,
+    rounds, text_next, up_to_next,
 };
 use macro_expressions::{BEYOND, Fault, Reading, begins_name};
 use macro_statements::{Form, Meant, Test, behind_word, built_in, first_word};
+
+/// How many names are too many.
+const MOST_MADE: u32 = 10_000;
 
 /// The text of a condition if it holds, which comes next in what is left after what it asks; goes on after the text.
 #[tactic(auto, unfolding(crate::specs::Meaning::text_if))]
@@ -169,11 +172,24 @@ fn comment_text(text: &[u8]) -> Option<(&[u8], &[u8])>
 fn comment(front: &mut Reading<'_>) -> Result<Option<Vec<u8>>, Fault>
     ensures { Gives (λ text. (option_map (λ t. t.items) text, front.new)) result (comment_step front.old) }
 {
-    let Some((_, rest)) = comment_text(front.behind_blanks()) else {
+    let Some((text, rest)) = comment_text(front.behind_blanks()) else {
         return Err(BEYOND);
     };
+    if has_marks(text) {
+        return Err(BEYOND);
+    }
     front.set_rest(rest);
     Ok(None)
+}
+
+/// IRP, and by characters IRPC.
+#[tactic(auto, unfolding(crate::specs::Meaning::irp_step))]
+fn irp(by_character: bool, front: &mut Reading<'_>) -> Result<Option<Vec<u8>>, Fault>
+    ensures { Gives (λ text. (option_map (λ t. t.items) text, front.new)) result (irp_step by_character front.old) }
+{
+    let (rounds, rest) = elements(front.alloc(), by_character, front.rest())?;
+    front.set_rest(rest);
+    Ok(Some(rounds))
 }
 
 /// Whether a name that may be a macro is next.
@@ -185,13 +201,19 @@ pub fn is_call(walk: &Walk<'_>, text: &[u8]) -> bool
 
 /// The call of a macro, whose name is next: its body with its arguments.
 #[tactic(auto, unfolding(crate::specs::Meaning::call_step))]
-pub fn call(walk: &Walk<'_>, front: &mut Reading<'_>) -> Result<Option<Vec<u8>>, Fault>
-    ensures { Gives (λ text. (option_map (λ t. t.items) text, front.new)) result (call_step walk.now front.old) }
+pub fn call(walk: &mut Walk<'_>, front: &mut Reading<'_>) -> Result<Option<Vec<u8>>, Fault>
+    ensures { Gives (λ text. (option_map (λ t. t.items) text, (walk.new, front.new))) result (call_step walk.old front.old) }
 {
     let Some(at) = walk.macro_at(Symbol::of(front.word()).sixbit()) else {
         return Err(BEYOND);
     };
-    let (text, rest) = call_text(front.alloc(), walk.kept_from(at), behind_word(front.rest()))?;
+    let mut made = walk.made();
+    let behind = behind_word(front.rest());
+    let (text, rest) = call_text(front.alloc(), walk.kept_from(at), &mut made, behind)?;
+    if made >= MOST_MADE {
+        return Err(BEYOND);
+    }
+    walk.set_made(made);
     front.set_rest(rest);
     Ok(Some(text))
 }
@@ -202,7 +224,7 @@ fn form_opens(form: Form) -> bool
 {
     match form {
         Form::Repeat | Form::If(_) | Form::IfDefined(_) | Form::IfSame(_) => true,
-        Form::IfBlank(_) | Form::Define | Form::Comment => true,
+        Form::IfBlank(_) | Form::Define | Form::Comment | Form::Irp(_) => true,
         _ => false,
     }
 }
@@ -233,6 +255,7 @@ fn form_opening(
         Form::IfBlank(wanted) => Ok(blank(wanted, front)?),
         Form::Define => define(walk, front),
         Form::Comment => Ok(comment(front)?),
+        Form::Irp(by_character) => Ok(irp(by_character, front)?),
         _ => Err(BEYOND),
     }
 }

@@ -5,14 +5,14 @@ ghost use Rattle.std.specs.List.{list_all};
 ghost use Rattle.std.specs.Option.{option_map};
 ghost use Rattle.macro_expressions.specs.Reading.{Gives};
 ghost use Rattle.macro_expressions.specs.Values.{defined_as};
-ghost use Rattle.macro_meaning.specs.Meaning.{can_enter, entered, next_step, walked, read_through, meaning, has_value, has_definition, is_settled, IsLeft, IsMeant, Stands};
+ghost use Rattle.macro_meaning.specs.Meaning.{can_enter, entering, leaving, entered, next_step, walked, read_through, meaning, has_value, has_definition, is_settled, IsLeft, IsMeant, Stands};
 
 use crate::scopes::Table;
 use crate::steps::step;
 use crate::walk::Walk;
 use indexmap::IndexMap;
 use macro_expansion::joins;
-use macro_expressions::{BEYOND, Defined, Fault, Reading, Stop, WRONG};
+use macro_expressions::{BEYOND, Defined, Fault, Reading, Stop, WRONG, begins_with};
 use macro_statements::{mentions, survey};
 use std::alloc::{AllocError, Global};
 use word36::{Image, Word};
@@ -48,6 +48,24 @@ fn finish(front: &mut Reading<'_>, inner: &mut Reading<'_>) -> Result<(), AllocE
     front.push_literal(pool.as_slice())
 }
 
+/// Begins the rounds of IRP, if a text is those.
+fn begin_rounds(text: &[u8], walk: &mut Walk<'_>)
+    ensures { walk.new ≡ entering text.now walk.old }
+{
+    if begins_with(253, text) {
+        walk.set_last(Some(false));
+    }
+}
+
+/// Ends the rounds of IRP, if a text is those; `before` is what held before them.
+fn end_rounds(text: &[u8], before: Option<bool>, walk: &mut Walk<'_>)
+    ensures { walk.new ≡ leaving text.now before walk.old }
+{
+    if begins_with(253, text) {
+        walk.set_last(before);
+    }
+}
+
 /// Reads a text that is put in front, if one is.
 #[cycle(reading)]
 fn enter(
@@ -65,9 +83,12 @@ fn enter(
     if !can_enter(text.as_slice(), front) {
         return Err(BEYOND);
     }
+    let before = walk.is_last();
     walk.spend(text.len())?;
+    begin_rounds(text.as_slice(), walk);
     let mut inner = begin(front, text.as_slice())?;
     read_through(table, depth, walk, &mut inner)?;
+    end_rounds(text.as_slice(), before, walk);
     Ok(finish(front, &mut inner)?)
 }
 

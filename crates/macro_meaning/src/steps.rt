@@ -6,7 +6,9 @@ ghost use Rattle.mac_text.specs.Scan.{after_blanks};
 ghost use Rattle.macro_expressions.specs.Reading.{Gives, ends_line};
 ghost use Rattle.macro_statements.specs.Mentions.{behind_word};
 ghost use Rattle.macro_meaning.specs.Meaning.{first_place, scope_of, less, is_label, is_assignment, assigned_text};
-ghost use Rattle.macro_meaning.specs.Meaning.{pool_step, place_step, block_step, radix_step, end_step, form_step, meant_step};
+ghost use Rattle.macro_meaning.specs.Meaning.{pool_step, place_step, block_step, radix_step, end_step, is_plain_line, line_step, stop_step};
+ghost use Rattle.macro_statements.specs.Words.{words_by};
+ghost use Rattle.macro_meaning.specs.Meaning.{words_step, round_step, form_step, meant_step};
 ghost use Rattle.macro_meaning.specs.Meaning.{label_step, assignment_step, plain, ended, named_step, unlabelled_step, step};
 
 use crate::early::{early_natural, is_early};
@@ -103,6 +105,58 @@ fn end(table: &Table, walk: &mut Walk<'_>, front: &mut Reading<'_>) -> Result<()
     Ok(())
 }
 
+/// Whether the rest of a line has no mark.
+#[tactic(auto, unfolding(crate::specs::Meaning::is_plain_line))]
+fn is_plain_line(text: &[u8]) -> bool
+    ensures { result ≡ is_plain_line text.now }
+{
+    for c in text {
+        if *c == b'\n' || *c >= 128 {
+            return *c == b'\n';
+        }
+    }
+    true
+}
+
+/// What says nothing, to the end of the line.
+fn skip_line(walk: &Walk<'_>, front: &mut Reading<'_>) -> Result<(), Fault>
+    ensures { Gives (λ _. (walk.now, front.new)) result (line_step walk.now front.old) }
+{
+    if !is_plain_line(front.rest()) {
+        return Err(BEYOND);
+    }
+    front.skip_line();
+    Ok(())
+}
+
+/// STOPI: the round that is read is the last.
+fn stop(walk: &mut Walk<'_>, front: &Reading<'_>) -> Result<(), Fault>
+    ensures { Gives (λ _. (walk.new, front.now)) result (stop_step walk.old front.now) }
+{
+    if walk.is_last().is_none() {
+        return Err(WRONG);
+    }
+    walk.set_last(Some(true));
+    Ok(())
+}
+
+/// Before a round: it is read, or nothing more is.
+fn round(walk: &Walk<'_>, front: &mut Reading<'_>) -> Result<(), Fault>
+    ensures { Gives (λ _. (walk.now, front.new)) result (round_step walk.now.is_last walk.now front.old) }
+{
+    match walk.is_last() {
+        None => Err(BEYOND),
+        Some(true) => {
+            front.set_rest(b"".as_slice());
+            Ok(())
+        }
+        Some(false) => {
+            front.step();
+            Ok(())
+        }
+    }
+}
+
 /// What a pseudo-operation leaves, whose name is read.
 fn form_step(
     table: &Table,
@@ -118,15 +172,26 @@ fn form_step(
         Form::Block => put_block(walk, front),
         Form::Lit => place_pool(walk, front),
         Form::End => end(table, walk, front),
-        Form::Title | Form::Remark => {
-            front.skip_line();
-            Ok(())
-        }
+        Form::Title | Form::Remark => skip_line(walk, front),
+        Form::Stopi => stop(walk, front),
         form => {
             let words = data_next(table, form, walk, front)?;
             walk.put(words.as_slice())
         }
     }
+}
+
+/// Puts the words of a statement that gives words.
+fn put_words(
+    table: &Table,
+    meant: Option<Meant>,
+    walk: &mut Walk<'_>,
+    front: &mut Reading<'_>,
+) -> Result<(), Fault>
+    ensures { Gives (λ _. (walk.new, front.new)) result (words_step walk.old (words_by (scope_of table.now.entries walk.old) meant front.old)) }
+{
+    let words = words_next(table, meant, walk, front)?;
+    walk.put(words.as_slice())
 }
 
 /// What a statement leaves by what its first name is.
@@ -144,9 +209,15 @@ fn meant_step(
             front.advance(len);
             form_step(table, form, walk, front)
         }
-        meant => {
-            let words = words_next(table, meant, walk, front)?;
-            walk.put(words.as_slice())
+        Some(Meant::Operation(named)) => {
+            put_words(table, Some(Meant::Operation(named)), walk, front)
+        }
+        None => {
+            if begins_with(253, front.rest()) {
+                round(walk, front)
+            } else {
+                put_words(table, None, walk, front)
+            }
         }
     }
 }
@@ -290,7 +361,7 @@ fn unlabelled(
         return assigned(table, walk, front);
     }
     if is_call(walk, front.rest()) {
-        return Ok(call(walk, front)?);
+        return call(walk, front);
     }
     let meant = meant(front);
     named(table, meant, walk, front)

@@ -48,6 +48,10 @@ pub struct Walk<'a> {
     is_sure: bool,
     /// How many characters were put in front.
     spent: usize,
+    /// How many names were made.
+    made: u32,
+    /// Whether the round of IRP that is read is the last, if one is.
+    is_last: Option<bool>,
 }
 
 impl<'a> Model for Walk<'a> {
@@ -67,6 +71,8 @@ impl<'a> Model for Walk<'a> {
       asked = w.asked.items;
       is_sure = w.is_sure;
       spent = w.spent;
+      made = w.made;
+      is_last = w.is_last;
     } };
 }
 
@@ -87,6 +93,8 @@ impl<'a> Walk<'a> {
             asked: Vec::new(alloc),
             is_sure: true,
             spent: 0,
+            made: 0,
+            is_last: None,
         }
     }
 
@@ -213,6 +221,34 @@ impl<'a> Walk<'a> {
         ensures { result.now ≡ drop at self.now.kept }
     {
         from_position(self.kept.as_slice(), at)
+    }
+
+    /// How many names were made.
+    pub fn made(&self) -> u32
+        ensures { result ≡ self.now.made }
+    {
+        self.made
+    }
+
+    /// Sets how many names were made.
+    pub fn set_made(&mut self, made: u32)
+        ensures { self.new ≡ record self.old { made = made } }
+    {
+        self.made = made;
+    }
+
+    /// Whether the round of IRP that is read is the last, if one is.
+    pub fn is_last(&self) -> Option<bool>
+        ensures { result ≡ self.now.is_last }
+    {
+        self.is_last
+    }
+
+    /// Sets whether the round of IRP that is read is the last.
+    pub fn set_last(&mut self, is_last: Option<bool>)
+        ensures { self.new ≡ record self.old { is_last = is_last } }
+    {
+        self.is_last = is_last;
     }
 
     /// Counts characters that are put in front.

@@ -5,6 +5,7 @@ use Rattle.std.specs.Str.{bytes_eq}
 use Rattle.mac_text.specs.Characters.{is_name_character, is_blank}
 use Rattle.mac_text.specs.Names.{folded, symbol_of}
 use Rattle.mac_text.specs.Scan.{begins_with, after_blanks, word_of}
+use Rattle.macro_expansion.specs.Marked.{is_mark}
 use Rattle.macro_statements.specs.Forms.{built_in}
 
 -- a text after the name that it begins with
@@ -25,10 +26,10 @@ defines text = begins_with 58 text || begins_with 35 text || begins_with 61 (aft
 abbrev pub is_far : List ℕ → Bool
 is_far text = list_any (bytes_eq (folded (word_of text))) far_names || (defines (behind_word text) && is_some (built_in (word_of text)))
 
--- such a word is in a text, outside of comments; whether a comment is open, and whether a name
+-- such a word is in a text outside of comments, or a mark in a comment; whether a comment is open, and whether a name
 unfoldable pub mentions : Bool → Bool → List ℕ → Bool
 mentions in_comment in_name [] = false
-mentions true in_name (c ∷ cs) = mentions (not (c == 10)) false cs
+mentions true in_name (c ∷ cs) = elim (is_mark c) [ true ↦ true | false ↦ mentions (not (c == 10)) false cs ]
 mentions false in_name (c ∷ cs) =
     elim (is_name_character c) [
       | true ↦ elim (not in_name && is_far (c ∷ cs)) [ true ↦ true | false ↦ mentions false true cs ]

@@ -1,6 +1,6 @@
 -- Words: halves, indexes, instructions and the pseudo-operations that give words (MACRO-10 Assembler Manual; what fits is
 -- this project's profile).
-use Rattle.std.specs.Prelude.{ℕ, zero, suc, ◌+◌, ◌-◌, ◌*◌, ◌^◌, ℤ, pos, negsuc, neg_ℤ, ◌-ℤ◌, int_lt, int_le, Result, Ok, Err}
+use Rattle.std.specs.Prelude.{ℕ, zero, suc, ◌-◌, ◌*◌, ◌^◌, ℤ, pos, negsuc, neg_ℤ, ◌-ℤ◌, int_lt, int_le, Result, Ok, Err}
 use Rattle.std.specs.Prelude.{Bool, true, false, ◌||◌, ◌&&◌, not, nat_le, List, [], ◌∷◌, ◌++◌}
 use Rattle.std.specs.Prelude.{length, replicate, Option, Some, None, unwrap_or, bit_or, if◌then◌else◌}
 use Rattle.word36.specs.Words.{signed_value, left_half, right_half, joined}

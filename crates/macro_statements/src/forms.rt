@@ -68,6 +68,10 @@ pub enum Form {
     Define,
     /// COMMENT.
     Comment,
+    /// IRP, and by characters IRPC.
+    Irp(bool),
+    /// STOPI.
+    Stopi,
     /// A statement that is not judged.
     Unjudged,
 }
@@ -131,9 +135,9 @@ static FORMS: [(&str, Form); 74] = [
     (".DIREC", Form::Unjudged),
     ("DEFINE", Form::Define),
     ("REPEAT", Form::Repeat),
-    ("IRP", Form::Unjudged),
-    ("IRPC", Form::Unjudged),
-    ("STOPI", Form::Unjudged),
+    ("IRP", Form::Irp(false)),
+    ("IRPC", Form::Irp(true)),
+    ("STOPI", Form::Stopi),
     ("IFE", Form::If(Test::Equal)),
     ("IFN", Form::If(Test::Unequal)),
     ("IFG", Form::If(Test::Greater)),

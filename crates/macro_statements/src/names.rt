@@ -62,7 +62,7 @@ fn is_far(text: &[u8], counted: &[u8]) -> bool
     is_far_name(counted) || defines(behind_word(text)) && built_in(first_word(text)).is_some()
 }
 
-/// Whether a text has such a word outside of comments.
+/// Whether a text has such a word outside of comments, or a mark in a comment.
 #[tactic(auto, unfolding(crate::specs::Mentions::mentions))]
 pub fn mentions(text: &[u8]) -> bool
     ensures { result ≡ mentions false false text.now }
@@ -71,6 +71,9 @@ pub fn mentions(text: &[u8]) -> bool
     let mut in_name = false;
     for (i, c) in text.iter().enumerate() {
         if in_comment {
+            if *c >= 128 {
+                return true;
+            }
             in_comment = *c != b'\n';
             in_name = false;
         } else if !is_name_character(*c) {
@@ -110,6 +113,9 @@ pub fn survey(alloc: Global, source: &[u8]) -> Result<Option<Vec<u64>>, AllocErr
     let mut in_name = false;
     for (i, c) in source.iter().enumerate() {
         if in_comment {
+            if *c >= 128 {
+                return Ok(None);
+            }
             in_comment = *c != b'\n';
             in_name = false;
             is_next = false;

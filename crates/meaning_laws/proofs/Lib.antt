@@ -1,4 +1,17 @@
 pub mod Example
 pub mod Written
+pub mod WrittenAgreement
+pub mod WrittenApart
+pub mod WrittenAssembly
+pub mod WrittenExample
+pub mod WrittenExampleImage
+pub mod WrittenGrammar
+pub mod WrittenLabels
+pub mod WrittenNames
 pub mod WrittenNumbers
+pub mod WrittenPieces
+pub mod WrittenReady
+pub mod WrittenSources
+pub mod WrittenSteps
+pub mod WrittenSurvey
 pub mod WrittenWords

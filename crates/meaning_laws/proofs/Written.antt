@@ -1,37 +1,34 @@
 -- Numbers and words in octal, as the definitions of what a source means read them.
-use Rattle.std.proofs.Common.{◌≡◌, ℕ, ℤ, zero, suc, ◌+◌, ◌-◌, ◌*◌, ◌/◌, ◌%◌, ◌^◌, ◌<◌, ◌≤◌, List, [], ◌∷◌, ◌++◌, Option, Some, None, Result, Ok, Err}
-use Rattle.std.proofs.Common.{Bool, true, false, length, length-append, take, drop, refl, ap, ◌∙◌, arith}
+use Rattle.std.proofs.Common.{◌≡◌, ℕ, ℤ, zero, suc, ◌<◌, ◌≤◌, List, [], ◌∷◌, ◌++◌, Some, None, Ok}
+use Rattle.std.proofs.Common.{true, false, length, take, drop, refl, ap, ◌∙◌, arith}
 use Rattle.std.specs.Prelude.{pos}
 use Rattle.std.specs.List.{list_all, prefix_len}
-use Rattle.std.proofs.lemmas.Bool.{and_parts, not-true, ne_eqb}
+use Rattle.std.proofs.lemmas.Bool.{and_parts, ne_eqb}
 use Rattle.std.proofs.lemmas.Bool.Decides.{nat_tests}
 use Rattle.std.proofs.Math.Seq.{take-append_seam, drop-append_seam}
 use Rattle.mac_text.specs.Characters.{is_blank, is_digit, is_name_character}
 use Rattle.whole_numbers.specs.Numerals.{digits_value}
 use Rattle.mac_text.specs.Numbers.{is_digit_of, number_of}
 use Rattle.mac_text.specs.Scan.{after_blanks, begins_with}
-use Rattle.macro_expressions.specs.declared.fault.Stop.{Stop}
-use Rattle.macro_expressions.specs.declared.kinds.Infix.{Infix}
-use Rattle.macro_expressions.specs.declared.kinds.Kind.{Kind}
 use Rattle.macro_expressions.specs.declared.kinds.Kind.TheVariants as kinds
 use Rattle.macro_expressions.specs.declared.kinds.SignKind.TheVariants as signs
-use Rattle.macro_expressions.specs.Reading.{◌>>=◌, Front, Reader, begins_name, begins_name_character, digits_of, skipped}
+use Rattle.macro_expressions.specs.Reading.{Reader, begins_name, begins_name_character, digits_of}
 use Rattle.macro_expressions.specs.Values.{Scope, digits_at, plain_at, begins_bits, bits_behind, kind_of, term_at, sign_of, unary_at}
 use Rattle.meaning_laws.specs.Written.{front}
 use Rattle.macro_expressions.specs.Values.{infix_of, more_at, level_at, expression_at, begins_expression, optional_at}
 
 -- ---- digits
 
-digit_between : (d : ℕ) → is_digit_of 8 d ≡ true → (48 ≤ d) × (d < 56)
+pub digit_between : (d : ℕ) → is_digit_of 8 d ≡ true → (48 ≤ d) × (d < 56)
 digit_between d h = grind (arith, nat_tests)
 
-digit_is_name_character : (d : ℕ) → is_digit_of 8 d ≡ true → is_name_character d ≡ true
+pub digit_is_name_character : (d : ℕ) → is_digit_of 8 d ≡ true → is_name_character d ≡ true
 digit_is_name_character d h = grind (arith, nat_tests)
 
-digit_is_no_blank : (d : ℕ) → is_digit_of 8 d ≡ true → is_blank d ≡ false
+pub digit_is_no_blank : (d : ℕ) → is_digit_of 8 d ≡ true → is_blank d ≡ false
 digit_is_no_blank d h = grind (arith, nat_tests)
 
-digit_is_digit : (d : ℕ) → is_digit_of 8 d ≡ true → is_digit d ≡ true
+pub digit_is_digit : (d : ℕ) → is_digit_of 8 d ≡ true → is_digit d ≡ true
 digit_is_digit d h = grind (arith, nat_tests)
 
 digits_length : (ds tail : List ℕ) → list_all (is_digit_of 8) ds ≡ true → digits_of tail ≡ [] → prefix_len is_digit tail ≡ 0
@@ -51,6 +48,7 @@ pub record BeginsNumber (text : List ℕ) : Type 0 where
   pub expression : begins_expression text ≡ true
   pub name : begins_name text ≡ false
   pub at_sign : begins_with 64 text ≡ false
+  pub mark : begins_with 253 text ≡ false
 
 no_name : (d : ℕ) (ds : List ℕ) → is_digit d ≡ true → is_name_character d ≡ true → begins_name (d ∷ ds) ≡ false
 no_name d [] h n = rw (n, h) refl
@@ -82,6 +80,7 @@ begins d ds is =
           refl;
       name = no_name d ds digit character;
       at_sign = ne_eqb d 64 (λ e. omega (arith, within.1));
+      mark = ne_eqb d 253 (λ e. omega (arith, within.1));
     }
 
 -- what may follow a number

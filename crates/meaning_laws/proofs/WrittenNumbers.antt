@@ -1,5 +1,5 @@
 -- LOC, BLOCK and END with a number in octal, as the definitions of what a source means read them.
-use Rattle.std.proofs.Common.{◌≡◌, ℕ, ℤ, zero, suc, ◌+◌, ◌-◌, ◌*◌, ◌/◌, ◌^◌, ◌<◌, ◌≤◌, ◌==◌, ◌||◌, ◌&&◌, List, [], ◌∷◌, ◌++◌, Option, Some, None, Result, Ok, Err}
+use Rattle.std.proofs.Common.{◌≡◌, ℕ, zero, suc, ◌+◌, ◌-◌, ◌*◌, ◌/◌, ◌^◌, ◌<◌, ◌≤◌, ◌==◌, ◌||◌, ◌&&◌, List, [], ◌∷◌, ◌++◌, Some, Ok}
 use Rattle.std.proofs.Common.{Bool, true, false, length, length-append, drop, replicate, refl, ap, ◌∙◌, arith}
 use Rattle.std.specs.Prelude.{pos, int_le}
 use Rattle.std.specs.List.{list_all, prefix_len}
@@ -16,14 +16,13 @@ use Rattle.whole_numbers.specs.Numerals.{digits_value}
 use Rattle.mac_text.specs.Characters.{is_blank}
 use Rattle.mac_text.specs.Numbers.{is_digit_of}
 use Rattle.mac_text.specs.Scan.{after_blanks}
-use Rattle.macro_expressions.specs.Reading.{◌>>=◌, Front}
 use Rattle.macro_expressions.specs.Values.{Scope, as_natural, optional_at}
 use Rattle.macro_meaning.specs.Meaning.{Walk, put_all, putting, scope_of, early_value, early_natural, place_step, block_step, end_step}
 use Rattle.meaning_laws.specs.Written.{front, argument, NumbersAreTaken}
-use Rattle.meaning_laws.proofs.Written.{EndsNumber, line_ends}
+use Rattle.meaning_laws.proofs.Written.{line_ends}
 use Rattle.meaning_laws.proofs.WrittenWords.{last_is_digit, text_begins, text_read}
 
-within_digits : (k n : ℕ) → list_all (is_digit_of 8) (octal_within k n) ≡ true
+pub within_digits : (k n : ℕ) → list_all (is_digit_of 8) (octal_within k n) ≡ true
 unfolding octal_within
 within_digits zero n = refl
 within_digits (suc k) n =
@@ -32,7 +31,7 @@ within_digits (suc k) n =
     (λ _. list_all-append (is_digit_of 8) (octal_within k (n / 8)) (last_digit n ∷ [])
     ∙ rw (within_digits k (n / 8), last) refl)
 
-within_some : (k n : ℕ) → 0 < length (octal_within (suc k) n)
+pub within_some : (k n : ℕ) → 0 < length (octal_within (suc k) n)
 within_some k n = by_digits (λ _ ds. 0 < length ds) k n (λ _. omega arith) (λ _. omega (arith, length-append (octal_within k (n / 8)) (last_digit n ∷ [])))
 
 within_value : (k n : ℕ) → 0 < k → n < 8 ^ k → digits_value 8 (octal_within k n) ≡ n
@@ -45,7 +44,7 @@ within_value (suc (suc k)) n p h =
     let below : n / 8 < 8 ^ suc k = omega (arith, pow-suc 8 (suc k)) in
     fold-append (λ m d. m * 8 + (d - 48)) 0 (octal_within (suc k) (n / 8)) (last_digit n ∷ []) ∙ omega (arith, within_value (suc k) (n / 8) (omega arith) below))
 
-after_blank : (text : List ℕ) → after_blanks (32 ∷ text) ≡ after_blanks text
+pub after_blank : (text : List ℕ) → after_blanks (32 ∷ text) ≡ after_blanks text
 after_blank text =
     let n = prefix_len is_blank text in
     let more : 1 + n ≡ suc n = omega arith in
@@ -91,7 +90,7 @@ or_true : (b : Bool) → (b || true) ≡ true
 or_true true = refl
 or_true false = refl
 
-all_put : (words : List ℕ) (w : Walk) → w.place + length words ≤ 2 ^ 18 → putting words w ≡ Ok (put_all words w)
+pub all_put : (words : List ℕ) (w : Walk) → w.place + length words ≤ 2 ^ 18 → putting words w ≡ Ok (put_all words w)
 all_put words w h = rw (le-leb (w.place + length words) (2 ^ 18) h, or_true (length words == 0)) refl
 
 blocked : (w : Walk) (text tail : List ℕ) (n : ℕ) → early_natural (2 ^ 18) w (front text) ≡ Ok (n, tail)

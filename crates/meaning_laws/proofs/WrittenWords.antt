@@ -1,7 +1,7 @@
 -- A line that is a word in octal, as the definitions of what a source means read it.
-use Rattle.std.proofs.Common.{◌≡◌, ℕ, ℤ, zero, suc, ◌+◌, ◌-◌, ◌*◌, ◌/◌, ◌%◌, ◌^◌, ◌<◌, ◌≤◌, List, [], ◌∷◌, ◌++◌, Option, Some, None, Result, Ok, Err}
-use Rattle.std.proofs.Common.{Bool, true, false, length, refl, sym, ap, ◌∙◌, inl, inr, append_assoc, arith}
-use Rattle.std.specs.Prelude.{pos, negsuc, ◌+ℤ◌, unsigned_abs, codes}
+use Rattle.std.proofs.Common.{◌≡◌, ℕ, ℤ, zero, suc, ◌+◌, ◌-◌, ◌*◌, ◌/◌, ◌^◌, ◌<◌, List, [], ◌∷◌, ◌++◌, Some, None, Ok}
+use Rattle.std.proofs.Common.{true, length, refl, ap, ◌∙◌, inl, inr, append_assoc, arith}
+use Rattle.std.specs.Prelude.{pos, negsuc, ◌+ℤ◌, unsigned_abs}
 use Rattle.std.specs.List.{list_all}
 use Rattle.std.proofs.lemmas.Bool.{lt-ltb, le-ltb, lt-leb, le-leb, cases_lt, and_parts}
 use Rattle.std.proofs.lemmas.Bool.Decides.{nat_tests}
@@ -14,10 +14,8 @@ use Rattle.word36.specs.Words.{signed_value, left_half, right_half, joined}
 use Rattle.word36.proofs.OctalLemmas.{length_octal}
 use Rattle.whole_numbers.specs.Numerals.{digits_value}
 use Rattle.mac_text.specs.Numbers.{is_digit_of}
-use Rattle.mac_text.specs.Scan.{after_blanks, begins_with}
+use Rattle.mac_text.specs.Scan.{after_blanks}
 use Rattle.macro_values.specs.Values.{has_word, word_at}
-use Rattle.macro_expressions.specs.declared.fault.Stop.{Stop}
-use Rattle.macro_expressions.specs.Reading.{◌>>=◌, Front}
 use Rattle.macro_expressions.specs.Values.{Scope, as_word, optional_at}
 use Rattle.macro_statements.specs.Words.{as_half, word_value_at, value_words}
 use Rattle.macro_meaning.specs.Meaning.{Walk, put, step, unlabelled_step, named_step, scope_of}
@@ -29,14 +27,14 @@ use Rattle.meaning_laws.proofs.Written.{BeginsNumber, EndsNumber, begins, line_e
 pub last_is_digit : (n : ℕ) → is_digit_of 8 (last_digit n) ≡ true
 last_is_digit n = grind (arith, nat_tests)
 
-octal_digits : (k n : ℕ) → list_all (is_digit_of 8) (octal k n) ≡ true
+pub octal_digits : (k n : ℕ) → list_all (is_digit_of 8) (octal k n) ≡ true
 unfolding octal
 octal_digits zero n = refl
 octal_digits (suc k) n =
     let last : list_all (is_digit_of 8) (last_digit n ∷ []) ≡ true = rw (last_is_digit n) refl in
     list_all-append (is_digit_of 8) (octal k (n / 8)) (last_digit n ∷ []) ∙ rw (octal_digits k (n / 8), last) refl
 
-octal_value : (k n : ℕ) → n < 8 ^ k → digits_value 8 (octal k n) ≡ n
+pub octal_value : (k n : ℕ) → n < 8 ^ k → digits_value 8 (octal k n) ≡ n
 unfolding octal
 octal_value zero n h = omega arith
 octal_value (suc k) n h =
@@ -54,7 +52,7 @@ pub text_read : (scope : Scope) (before ds tail : List ℕ) → 0 < length ds �
 text_read scope before [] tail some h end a = absurd (omega arith)
 text_read scope before (d ∷ ds) tail some h end a = digits_read scope before d ds tail h end a
 
-half_some : (n : ℕ) → 0 < length (octal 6 n)
+pub half_some : (n : ℕ) → 0 < length (octal 6 n)
 half_some n = omega (arith, length_octal 6 n)
 
 half_begins : (n : ℕ) (tail : List ℕ) → BeginsNumber (octal 6 n ++ tail)
@@ -137,7 +135,7 @@ step_of_word : (table : List (ℕ × ℤ)) (w : Walk) (text rest : List ℕ) (wo
     → value_words (scope_of table w) (front text) ≡ Ok (word ∷ [], front (10 ∷ rest))
     → step table w (front text) ≡ Ok (None, (put word w, front (10 ∷ rest)))
 unfolding step unlabelled_step named_step
-step_of_word table w text rest word begin h a = rw (begin.name, begin.name, begin.name, begin.name, begin.name, a, le-leb (w.place + 1) (2 ^ 18) (omega (arith, h))) refl
+step_of_word table w text rest word begin h a = rw (begin.name, begin.name, begin.name, begin.name, begin.name, begin.mark, a, le-leb (w.place + 1) (2 ^ 18) (omega (arith, h))) refl
 
 -- a line that is a word puts that word at the place that is next
 pub word_is_put : (table : List (ℕ × ℤ)) (w : Walk) (word : ℕ) (rest : List ℕ) → word < 2 ^ 36 → w.place < 2 ^ 18

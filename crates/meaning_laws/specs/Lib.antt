@@ -1,2 +1,5 @@
 pub mod Example
 pub mod Written
+pub mod WrittenExample
+pub mod WrittenLines
+pub mod WrittenSource

@@ -66,7 +66,7 @@ abbrev pub data_line : DataWord → List ℕ
 data_line d = codes "DATA " ++ decimal d.number ++ codes " " ++ word_text d.word ++ codes "\n"
 
 abbrev pub typed_line : Typed → List ℕ
-typed_line t = codes "TEXT " ++ decimal t.line ++ codes " " ++ string_bytes t.text ++ codes "\n"
+typed_line t = codes "TEXT " ++ decimal t.line ++ codes " " ++ t.text.items ++ codes "\n"
 
 -- an end with this number: how many calls its order has, the jobs, the words that all share, what was typed out, and the order
 abbrev pub end_text : ℕ → Bool → End → List ℕ

@@ -39,7 +39,7 @@ pub struct Typed {
     /// The number of its terminal line.
     pub line: u8,
     /// The characters, as they are told.
-    pub text: String,
+    pub text: Vec<u8>,
 }
 
 /// How orders end.

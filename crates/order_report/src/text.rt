@@ -89,7 +89,7 @@ fn push_typed_line(out: &mut Vec<u8>, typed: &Typed) -> Result<(), AllocError>
     out.extend_from_slice(b"TEXT ")?;
     push_decimal(out, typed.line)?;
     out.extend_from_slice(b" ")?;
-    out.extend_from_slice(typed.text.as_str().as_bytes())?;
+    out.extend_from_slice(typed.text.as_slice())?;
     out.extend_from_slice(b"\n")
 }
 

@@ -1,5 +1,5 @@
 -- Programs that are all in a script.
-use Rattle.std.proofs.Common.{◌≡◌, ◌<◌, ◌≤◌, ◌∙◌, ap, refl, sym, ℕ, min, List, [], ◌∷◌, ◌++◌, append-nil, drop, length, arith, inl, inr}
+use Rattle.std.proofs.Common.{◌≡◌, ◌≤◌, ◌∙◌, ap, refl, sym, ℕ, min, List, [], ◌∷◌, ◌++◌, append-nil, drop, length, arith, inl, inr}
 use Rattle.std.proofs.lemmas.Bool.{cases_lt}
 use Rattle.std.proofs.lemmas.List.{drop_all}
 use Rattle.source_labels.specs.declared.sources.Program.{Program}

@@ -3,6 +3,7 @@
 
 mod files;
 mod from_option;
+mod hosts;
 mod macro_sources;
 mod names;
 mod programs;
@@ -12,6 +13,7 @@ mod several;
 
 pub use files::{ProgramFile, inputs_in, read_files};
 pub use from_option::{make_from, packing_in};
+pub use hosts::{answer_refusal, read_all_files, write_kept, write_pending};
 pub use names::is_image_name;
 pub use programs::read_program;
 pub use recorded::{NotRecorded, are_recordable, not_recorded, push_programs};

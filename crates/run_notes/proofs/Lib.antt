@@ -1,3 +1,4 @@
 mod CircleLemmas
+mod StepLemmas
 mod WordLemmas
 pub mod WaitLemmas

@@ -1,6 +1,8 @@
-pub mod Words
 pub mod FactWords
 pub mod Flags
 pub mod Instructions
-pub mod Waits
+pub mod Seen
 pub mod Standings
+pub mod Steps
+pub mod Waits
+pub mod Words

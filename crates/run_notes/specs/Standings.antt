@@ -7,6 +7,8 @@ use Rattle.job_sched.specs.declared.job.Wait.TheVariants.{Sleep, Char, Line, Roo
 use Rattle.ka_state.specs.declared.outcome.StopReason.{StopReason}
 use Rattle.ka_state.specs.declared.outcome.StopReason.TheVariants.{IllegalAddress, IllegalInstruction, Halt, Pushdown, AddressChain}
 use Rattle.lock_queue.specs.declared.request.Request.{Request}
+use Rattle.machine.specs.declared.event.RefusedEvent.{RefusedEvent}
+use Rattle.machine.specs.declared.event.RefusedEvent.TheVariants as refused
 use Rattle.machine.specs.declared.view.JobView.{JobView}
 use Rattle.run_facts.specs.declared.standing.Standing.{Standing}
 use Rattle.run_facts.specs.declared.standing.Standing.TheVariants.{Gone, Stopped, Goes}
@@ -55,3 +57,14 @@ abbrev pub IsStandingText : List Request → ℕ → Standing → List ℕ → T
 IsStandingText requests job Gone text = text ≡ codes "LOGOUT"
 IsStandingText requests job (Stopped why) text = text ≡ stop_words why
 IsStandingText requests job (Goes wait) text = IsToldWait requests job wait text
+
+-- why a program cannot be logged in or started
+abbrev pub login_refusal_words : RefusedEvent → List ℕ
+login_refusal_words refused.NoCore = codes "it takes more blocks of core than are free"
+login_refusal_words refused.BadImage = codes "it has no words"
+login_refusal_words refused.NoLine = codes "there is no terminal line for it"
+login_refusal_words refused.LineBusy = codes "its terminal line is taken"
+login_refusal_words refused.NoJobNumber = codes "all job numbers are taken"
+login_refusal_words refused.NoSuchJob = codes "there is no such job"
+login_refusal_words refused.NotStopped = codes "it runs already"
+login_refusal_words refused.Full = codes "its terminal line is full"

@@ -1,6 +1,6 @@
 -- How long requests wait for their grants: clocks that the facts of a run start and stop, and a table of that by lock (this
 -- project's profile). Times are in ticks.
-use Rattle.std.specs.Prelude.{ℕ, ◌≡◌, ◌+◌, ◌-◌, ◌*◌, ◌/◌, ◌%◌, ◌^◌, ◌==◌, ◌&&◌, Bool, true, false, if◌then◌else◌, min, max}
+use Rattle.std.specs.Prelude.{ℕ, ◌≡◌, ◌+◌, ◌-◌, ◌*◌, ◌/◌, ◌%◌, ◌^◌, ◌==◌, ◌&&◌, Bool, true, false, if◌then◌else◌, min, max, nat_lt}
 use Rattle.std.specs.Prelude.{count_by, position, remove, slice_get}
 use Rattle.std.specs.Fmt.{format_spec, styled_decimal, styled_text}
 use Rattle.std.specs.List.{flat_map}
@@ -171,6 +171,14 @@ wait_lines tick (f ∷ facts) s = wait_line tick f s.waiting ++ wait_lines tick 
 -- whether a wait, for which its job waits too, is long from this tick on: one tick more than `most`
 abbrev pub is_due : ℕ → ℕ → WaitClock → Bool
 is_due most tick clock = is_blocking clock.request.kind && plus (plus clock.since most) 1 == tick
+
+-- the least number of ticks in which one of some waits is long, and another number
+abbrev pub least_due : ℕ → ℕ → ℕ → List WaitClock → ℕ
+least_due most tick least [] = least
+least_due most tick least (clock ∷ waiting) =
+    least_due most tick
+    (if is_blocking clock.request.kind && nat_lt tick (plus (plus clock.since most) 1)
+    then min least (plus (plus clock.since most) 1 - tick) else least) waiting
 
 -- the line on a wait that is long from a tick on, if there is one
 abbrev pub IsDueText : List Request → ℕ → Option WaitClock → List ℕ → Type 0

@@ -1,6 +1,6 @@
 //! Why jobs are stopped, and why they are not logged in, in words.
 ghost use Rattle.std.specs.Prelude.{◌≡◌};
-ghost use Rattle.run_notes.specs.Standings.{stop_words};
+ghost use Rattle.run_notes.specs.Standings.{login_refusal_words, stop_words};
 
 use job_sched::Stop;
 use ka_state::StopReason;
@@ -24,7 +24,9 @@ pub fn stop_text(stop: Stop) -> &'static str
 }
 
 /// Why a program cannot be logged in or started, in words for a person.
-pub fn login_refusal_text(refusal: RefusedEvent) -> &'static str {
+pub fn login_refusal_text(refusal: RefusedEvent) -> &'static str
+    ensures { result.now ≡ login_refusal_words refusal }
+{
     match refusal {
         RefusedEvent::NoCore => "it takes more blocks of core than are free",
         RefusedEvent::BadImage => "it has no words",

@@ -23,7 +23,7 @@ pub use flag_names::FlagNames;
 pub use instructions::{IllegalText, InstructionText, Reference};
 pub use job_stops::{login_refusal_text, stop_text};
 pub use snapshot::{Snapshot, snapshot_of};
-pub use standings::{standing_of, standing_text};
+pub use standings::{standing_of, standing_text, standing_text_on};
 pub use steps::{step_line, time_limit_line};
 pub use traced_job::TracedJob;
 pub use wait_clocks::WaitClocks;

@@ -1,8 +1,9 @@
 //! A job as it stands before its turn.
 
-ghost use Rattle.std.specs.Prelude.{◌≡◌, ◌<◌, ℕ, IfSome, Some, slice_index_or, unwrap_or};
+ghost use Rattle.std.specs.Prelude.{◌≡◌, ◌<◌, ℕ, IfSome, Some, count_by, slice_index_or, unwrap_or};
 ghost use Rattle.machine.specs.Next.{effective_in, executed_in};
 ghost use Rattle.machine.specs.Views.{job_view, word_in};
+ghost use Rattle.run_notes.specs.Steps.{is_interrupted, is_own, is_told};
 
 use concrete_machine::Machine;
 use ka_state::Flags;
@@ -41,7 +42,10 @@ struct Requests {
 }
 
 /// Counts the requests of a job.
-fn requests_of(machine: &Machine, number: u8) -> Requests {
+fn requests_of(machine: &Machine, number: u8) -> Requests
+    ensures all { result.all ≡ count_by (is_own number) machine.now.world.requests }
+    ensures notified { result.notified ≡ count_by (is_told number) machine.now.world.requests }
+{
     let mut requests = Requests {
         all: 0,
         notified: 0,
@@ -49,10 +53,10 @@ fn requests_of(machine: &Machine, number: u8) -> Requests {
     for i in 0..machine.request_count() {
         let request = machine.request(i);
         if request.job == number {
-            requests.all = requests.all.saturating_add(1);
-            if request.notified {
-                requests.notified = requests.notified.saturating_add(1);
-            }
+            requests.all += 1;
+        }
+        if request.job == number && request.notified {
+            requests.notified += 1;
         }
     }
     requests
@@ -61,7 +65,9 @@ fn requests_of(machine: &Machine, number: u8) -> Requests {
 impl Snapshot {
     /// Whether the job's turn was an interrupt, which notifies it of a grant and executes nothing: the job has as
     /// many requests as before, and was notified of more of them.
-    pub fn is_interrupted(&self, machine: &Machine, number: u8) -> bool {
+    pub fn is_interrupted(&self, machine: &Machine, number: u8) -> bool
+        ensures { result ≡ is_interrupted machine.now.world.requests number self.now }
+    {
         let requests = requests_of(machine, number);
         requests.all == self.requests.all && requests.notified > self.requests.notified
     }
@@ -101,7 +107,7 @@ fn registers_of(machine: &Machine, number: u8) -> [Word; REGISTERS]
 }
 
 /// The flags of a job, if it is there.
-pub fn flags_of(machine: &Machine, number: u8) -> Option<Flags>
+fn flags_of(machine: &Machine, number: u8) -> Option<Flags>
     ensures there { IfSome (job_view machine.now.world number) (λ v. result ≡ Some v.flags) }
 {
     match machine.job(number) {
@@ -119,6 +125,8 @@ pub fn snapshot_of(machine: &Machine, number: u8, place: Address) -> Snapshot
     ensures flags { IfSome (job_view machine.now.world number) (λ v. result.flags ≡ Some v.flags) }
     ensures operand { IfSome result.address (λ a. result.operand ≡ word_in machine.now.world number a) }
     ensures registers { (k : ℕ) → k < 16 → slice_index_or result.registers k 0 ≡ unwrap_or (word_in machine.now.world number k) 0 }
+    ensures requests { result.requests.all ≡ count_by (is_own number) machine.now.world.requests }
+    ensures notified { result.requests.notified ≡ count_by (is_told number) machine.now.world.requests }
 {
     let instruction = machine.peek(number, place.number()).unwrap_or(Word::new(0));
     let executed = machine

@@ -66,7 +66,7 @@ fn wait_text(alloc: Global, requests: &[Request], job: u8, wait: Wait) -> Result
 }
 
 /// How a job stands, where these are the requests.
-fn text_on(
+pub fn standing_text_on(
     alloc: Global,
     requests: &[Request],
     job: u8,
@@ -91,5 +91,5 @@ pub fn standing_text(alloc: Global, machine: &Machine, job: u8) -> Result<String
         (standing_of (job_view machine.now.world job)) (string_bytes text)) }
 {
     let requests = machine.requests(alloc)?;
-    text_on(alloc, requests.as_slice(), job, standing_of(machine, job))
+    standing_text_on(alloc, requests.as_slice(), job, standing_of(machine, job))
 }

@@ -1,4 +1,5 @@
 //! A job whose steps are reported.
+ghost use Rattle.std.specs.Prelude.{◌≡◌};
 
 use source_labels::{Places, Spot};
 use word36::Address;
@@ -16,7 +17,10 @@ pub struct TracedJob {
 
 impl TracedJob {
     /// An address of its program, to be written by its labels.
-    pub fn spot(&self, place: Address) -> Spot<'_> {
+    pub fn spot(&self, place: Address) -> Spot<'_>
+        ensures places { result.places.now ≡ self.now.places }
+        ensures place { result.place ≡ place }
+    {
         Spot {
             places: &self.places,
             place,

@@ -1,7 +1,7 @@
 //! How long requests wait for their grants, by the facts of a run. Times are in ticks.
-ghost use Rattle.std.specs.Prelude.{◌≡◌, ◌++◌, ◌<◌, [], IfOk, IfSome, Ok, OnOk, Some, length, position, string_bytes};
+ghost use Rattle.std.specs.Prelude.{◌≡◌, ◌++◌, ◌<◌, ◌-◌, ◌^◌, [], IfOk, IfSome, Ok, OnOk, Some, length, position, string_bytes};
 ghost use Rattle.word36.specs.Words.{left_half};
-ghost use Rattle.run_notes.specs.Waits.{IsDueText, after_call, after_end, after_fact, after_facts, after_request, clock_at, ends, granted_after, is_due, kind_of, makes_request, request_made};
+ghost use Rattle.run_notes.specs.Waits.{IsDueText, after_call, after_end, after_fact, after_facts, after_request, clock_at, ends, granted_after, is_due, kind_of, least_due, makes_request, request_made};
 ghost use Rattle.run_notes.specs.Waits.{lock_line, started_at, still_waiting, stopped_by, table_of, table_words, wait_line, wait_lines, waits_by, with_waits};
 
 use crate::fact_lines::{push_wants, stays};
@@ -300,7 +300,9 @@ impl WaitClocks {
     }
 
     /// In how many ticks the first of these waits is long; a great number if none will be.
-    pub fn ticks_to_overdue(&self, tick: u64) -> u64 {
+    pub fn ticks_to_overdue(&self, tick: u64) -> u64
+        ensures { result ≡ least_due self.now.most tick (2 ^ 64 - 1) self.now.waiting }
+    {
         let mut least = u64::MAX;
         for clock in &self.waiting {
             let due = clock.since.saturating_add(self.most).saturating_add(1);

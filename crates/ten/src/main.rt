@@ -1,11 +1,27 @@
 //! The program: assembles the sources that its arguments name, and runs them.
 #![tactic(auto)]
 
+mod arguments;
+mod history;
+mod jobs;
+mod loading;
+mod notes;
+mod options;
+mod picture;
+mod program;
+mod recording;
+mod running;
+mod session;
+mod terminal;
+mod texts;
+mod typing;
+mod waits;
+
+use program::{FAILURE_LINES, ten};
 use program_shell::{Answers, Failure, LineReader, Terminal, arguments_or_status, report_failure};
 use script_io::{HostIn, HostOut};
 use std::io::IsTerminal;
 use std::process::ExitCode;
-use ten_program::{FAILURE_LINES, ten};
 
 fn main(rt: HostRuntime) -> ExitCode {
     let alloc = rt.alloc();

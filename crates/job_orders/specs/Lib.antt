@@ -1,0 +1,12 @@
+pub mod Pages
+pub mod States
+pub mod Forms
+pub mod Tables
+pub mod Learning
+pub mod Views
+pub mod Framing
+pub mod Systems
+pub mod Sounding
+pub mod Endings
+pub mod Reports
+pub mod Finding

@@ -1,0 +1,4 @@
+pub mod Begun
+pub mod Going
+pub mod Leading
+pub mod Recorded

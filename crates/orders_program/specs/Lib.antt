@@ -1,0 +1,5 @@
+pub mod Begun
+pub mod Followed
+pub mod Telling
+pub mod Scripts
+pub mod Answers
