@@ -75,7 +75,8 @@ class Case:
 
     def told(self):
         """Gives what may be written to standard error where memory was refused."""
-        lines = ["there is no memory" if self.program == "ten" else "memory", *(f"{it}: out of memory" for it in self.words)]
+        files = [f"{head}{it}: out of memory" for head in ("", "the script cannot be written: ") for it in self.words]
+        lines = ["there is no memory" if self.program == "ten" else "memory", *files]
         return [f"{self.program}: {it}\n".encode() for it in lines]
 
 
