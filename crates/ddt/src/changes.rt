@@ -20,7 +20,8 @@ use word36::{Address, Word};
 
 /// A value: deposits it at the open address, and closes that.
 pub fn deposit(session: &mut Session, timeline: &mut Timeline, word: Word)
-    ensures happens { IsTrue session.new.answer.is_whole → history timeline.new ≡ after_deposit session.old word (history timeline.old) }
+    ensures happens { IsTrue session.new.answer.is_whole
+        → history timeline.new ≡ after_deposit session.old word (history timeline.old) }
     ensures refused { takes_word session.old ≡ false → timeline.new ≡ timeline.old }
     ensures mask { session.old.is_open ≡ true → session.old.is_mask ≡ true → session.new.mask ≡ word }
     ensures stays { session.new.open ≡ session.old.open }

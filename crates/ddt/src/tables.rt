@@ -22,7 +22,8 @@ use std::alloc::AllocError;
 
 /// `.JOB n`: opens a job, and shows how it stands.
 pub fn open_job(session: &mut Session, timeline: &Timeline, number: u8)
-    ensures opens { 1 ≤ number → number ≤ length session.old.jobs.items → (session.new.open ≡ number) × (session.new.is_open ≡ false) }
+    ensures opens { 1 ≤ number → number ≤ length session.old.jobs.items
+        → (session.new.open ≡ number) × (session.new.is_open ≡ false) }
     ensures none { length session.old.jobs.items < number → session.new.open ≡ session.old.open }
 {
     if usize::from(number) > session.jobs.len() || number == 0 {

@@ -111,7 +111,7 @@ fn standing_of(job: Option<&Job>) -> Standing {
     }
 }
 
-/// The same of a state that is an end.
+/// How each job is left at an end, the words that all share, and the texts that were put out.
 fn told_at(alloc: Global, machine: &Machine, count: u8) -> Result<Told, AllocError>
     requires { count ≤ JOBS }
 {

@@ -14,7 +14,7 @@ pub const LOSSY: &str = " MOVEI 1,0
  END 140
 ";
 
-/// The same, under a lock.
+/// Adds one to data word 0 under a lock.
 pub const CAREFUL: &str = " MOVE 1,[BLK]
  ENQ. 1,
  HALT
